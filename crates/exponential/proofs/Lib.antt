@@ -1,0 +1,9 @@
+pub mod Every
+pub mod Power
+pub mod Scale
+pub mod Examples
+pub mod Whole
+pub mod Rest
+pub mod Bounds
+pub mod HalvedBits
+pub mod Laws

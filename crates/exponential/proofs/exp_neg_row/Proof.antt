@@ -1,0 +1,106 @@
+-- `exponential::exp_neg_row` meets its contract. The loop's invariant: the elements before i are mapped, the others are as they were. Assumes nothing.
+use mathlib.Core.Path.{_≡_, refl, sym, ap, _∙_, subst}
+use Prim.Native.Nat.{ℕ, _≤_, _-_}
+use native.Mathlib.Omega.{arith}
+use borrow.Author.Needs.{needs}
+use mathlib.Core.List.{List}
+use lib.ListN.{length, getD, set}
+use lib.Ieee.{Float, binary32, sub, nan}
+use Rattle.tensor_laws.proofs.InPlace.{mappedTo, mapped-next, length-mappedTo, mapped-all}
+use Rattle.exponential.specs.Power.{powerBits}
+use Rattle.exponential.specs.ExpNeg.{expNegOf, expNegRowOf, valueOrZero}
+use Rattle.exponential.proofs.exp_neg_row.Statement.{statement}
+use Rattle.exponential.proofs.exp_neg_row.Tie as tie
+use Rattle.exponential.proofs.exp_neg_row.Reads as reads
+use Rattle.exponential.proofs.exp_neg_row.Lts as lts
+use Rattle.exponential.proofs.exp_neg_or_zero.Reads as exp-neg-or-zero-reads
+
+-- what an element becomes
+abbrev eachOf : Float → Float → Float
+eachOf largest s = valueOrZero (expNegOf (sub binary32 largest s))
+
+abbrev Inv-loop : tie.InvT-loop
+Inv-loop row₀ largest powers i₀ row i = (i ≤ length row₀) × (row ≡ mappedTo (eachOf largest) i row₀) × (powers ≡ powerBits)
+
+abbrev μ-loop : tie.MeasureT-loop
+μ-loop row₀ largest powers i₀ row i = length row₀ - i
+
+-- src/lib.rt:107:5
+loop-holds : tie.Need-loop-holds Inv-loop μ-loop
+unfolding powerBits
+loop-holds c = (omega arith, refl, refl)
+
+-- src/lib.rt:108:53
+mul-exp-neg-or-zero : tie.Need-mul-exp-neg-or-zero Inv-loop μ-loop
+mul-exp-neg-or-zero c = search needs
+
+-- src/lib.rt:108:53
+slice-read-exp-neg-or-zero : tie.Need-slice-read-exp-neg-or-zero Inv-loop μ-loop
+slice-read-exp-neg-or-zero c = search needs
+
+-- src/lib.rt:108:18
+exp-neg-or-zero-requires : tie.Need-exp-neg-or-zero-requires Inv-loop μ-loop
+exp-neg-or-zero-requires c κs = search needs
+
+-- src/lib.rt:108:9
+mul-row : tie.Need-mul-row Inv-loop μ-loop
+mul-row c = search needs
+
+-- src/lib.rt:108:9
+slice-write-row : tie.Need-slice-write-row Inv-loop μ-loop
+slice-write-row c = search needs
+
+-- src/lib.rt:109:9
+add-i : tie.Need-add-i Inv-loop μ-loop
+add-i c = omega arith
+
+-- src/lib.rt:107:5
+-- the row keeps its length
+as-long : (c : tie.At-loop Inv-loop μ-loop) → length (c .loop .row) ≡ length (c .before .before .args .row .now)
+as-long c = ap length (c .loop .inv .1) ∙ length-mappedTo (eachOf (c .before .before .args .largest)) (c .loop .i) (c .before .before .args .row .now)
+
+loop-less : tie.Need-loop-less Inv-loop μ-loop
+loop-less c = let n = as-long (c .before .before .before .before) in omega arith
+
+-- src/lib.rt:107:5
+loop-again : tie.Need-loop-again Inv-loop μ-loop
+loop-again c =
+    let a = c .before .before .before .before in
+    let g = eachOf (a .before .before .args .largest) in
+    let row₀ = a .before .before .args .row .now in
+    let n = as-long a in (
+      omega arith,
+      ap (λ (x : Float). set (a .loop .row) (a .loop .i) x) (c .exp-neg-or-zero .ensures)
+          ∙ ap (λ (r : List Float). set r (a .loop .i) (g (getD r (a .loop .i) nan))) (a .loop .inv .1)
+          ∙ mapped-next g nan (a .loop .i) row₀ (omega arith),
+      a .loop .inv .2,
+    )
+
+-- src/lib.rt:102:1
+same-length : tie.Need-same-length Inv-loop μ-loop
+same-length c = as-long (c .before)
+
+-- src/lib.rt:102:1
+returns : tie.Need-returns Inv-loop μ-loop
+unfolding expNegRowOf
+returns c =
+    let n = as-long (c .before) in
+    c .before .loop .inv .1 ∙ mapped-all (eachOf (c .before .before .before .args .largest)) (c .before .loop .i) (c .before .before .before .args .row .now) (omega arith)
+
+pub exp-neg-row-spec : {M : Type 1} → statement M
+exp-neg-row-spec =
+    tie.close
+    (tie.spec
+    Inv-loop
+    μ-loop
+    loop-holds
+    mul-exp-neg-or-zero
+    slice-read-exp-neg-or-zero
+    exp-neg-or-zero-requires
+    mul-row
+    slice-write-row
+    add-i
+    loop-less
+    loop-again
+    same-length
+    returns)

@@ -1,0 +1,5 @@
+pub mod Slots
+pub mod Tabulate
+pub mod Splice
+pub mod Rows
+pub mod InPlace
