@@ -12,7 +12,7 @@ use lib.Ieee.{Float, nan, inf, fin, binary32, ofBits, add, sub, mul, le, lt, isN
 use lib.Ieee.Fits.{mul-fits, and-i}
 use lib.Ieee.Bits.{is-true, is-false}
 use lib.Ieee.Scale.{finite}
-use Rattle.float_laws.proofs.Order.{plus, finite-not-nan, le-of-not-lt, lt-of-not-le}
+use Rattle.float_laws.proofs.Order.{plus, plus-finite, finite-not-nan, le-of-not-lt, lt-of-not-le}
 use Rattle.float_laws.proofs.Product.{mul-mono, mul-not-nan}
 use Rattle.exponential.specs.declared.Exponential.{Exponential}
 use Rattle.exponential.specs.declared.Exponential.the-variants.{Value, NoValue}
@@ -127,6 +127,12 @@ value-or-zero-in-unit d = go (isNan d || lt d plusZero) (no-value-where d) (valu
     go true p q = subst (λ (e : Exponential). InUnit (valueOrZero e)) (sym (p tt)) zero-in-unit
     go false p q = let v = q tt in subst (λ (e : Exponential). InUnit (valueOrZero e)) (sym (v .1)) (v .2)
 
+in-unit-not-nan : (x : Float) → InUnit x → T (not (isNan x))
+in-unit-not-nan x u = finite-not-nan x (plus-finite x (u .sign))
+
+pub value-not-nan : (d x : Float) → expNegOf d ≡ Value x → T (not (isNan x))
+value-not-nan d x e = in-unit-not-nan x (subst (λ (v : Exponential). InUnit (valueOrZero v)) e (value-or-zero-in-unit d))
+
 pub length-row : (largest : Float) (row : List Float) → length (expNegRowOf largest row) ≡ length row
 unfolding expNegRowOf
 length-row largest row = length-map row (λ s. valueOrZero (expNegOf (sub binary32 largest s)))
@@ -139,3 +145,8 @@ mapped f (x ∷ l) (suc i) d h = mapped f l i d (le-of-suc-le-suc h)
 pub getD-row : (largest : Float) (row : List Float) (i : ℕ) (d : Float) → i < length row → getD (expNegRowOf largest row) i d ≡ valueOrZero (expNegOf (sub binary32 largest (getD row i d)))
 unfolding expNegRowOf
 getD-row largest row i d h = mapped (λ s. valueOrZero (expNegOf (sub binary32 largest s))) row i d h
+
+pub row-not-nan : (largest : Float) (row : List Float) (i : ℕ) (d : Float) → i < length row → T (not (isNan (getD (expNegRowOf largest row) i d)))
+row-not-nan largest row i d h =
+    subst (λ (x : Float). T (not (isNan x))) (sym (getD-row largest row i d h))
+    (in-unit-not-nan (valueOrZero (expNegOf (sub binary32 largest (getD row i d)))) (value-or-zero-in-unit (sub binary32 largest (getD row i d))))

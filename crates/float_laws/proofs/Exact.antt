@@ -2,7 +2,7 @@
 -- A fraction q / 2 ^ w of few enough digits is such a value. Assumes nothing.
 use mathlib.Core.Path.{_≡_, refl, sym, ap, _∙_, subst}
 use Prim.Native.Nat.{ℕ, zero, suc, _+_, _-_, _*_, _/_, _%_, _^_, _≤_, _<_, zero-le}
-use native.Mathlib.Nat.{le-refl, le-trans, le-of-eq, le-add-left, le-of-suc-le-suc, lt-of-lt-of-le, lt-of-not-le, not-le-of-lt, lt-irrefl, zero-mul, suc-mul, mul-one, mul-comm, mul-assoc, mul-right-comm, eq-of-mul-eq-mul-right, add-zero}
+use native.Mathlib.Nat.{le-refl, le-trans, le-of-eq, le-add-left, le-of-suc-le-suc, lt-of-lt-of-le, lt-of-le-of-lt, lt-of-not-le, not-le-of-lt, lt-irrefl, lt-of-mul-lt-mul-right, zero-mul, suc-mul, mul-one, one-mul, mul-comm, mul-assoc, mul-right-comm, mul-pos, mul-lt-mul-of-pos-right, eq-of-mul-eq-mul-right, add-zero}
 use native.Mathlib.Omega.{arith}
 use mathlib.Core.Bool.{Bool, true, false, cond, _&&_}
 use lib.IntN.{ℤ, pos, negsuc}
@@ -99,3 +99,34 @@ rescaled (fin t m e) s a c b d C h v = (
       ∙ ap (λ (z : ℕ). z * down e) h
       ∙ mul-right-comm b c (down e)),
 )
+
+-- ---- rounding a fraction that a value of the format equals gives that value
+
+-- up e * 2 ^ low is 2 ^ j * down e
+shift : (f : Format) (e : ℤ) → down e ≤ 2 ^ low f → (j : ℕ) × (up e * 2 ^ low f ≡ 2 ^ j * down e)
+shift f (pos k) h = (k + low f, sym (pow-add 2 k (low f)) ∙ sym (mul-one (2 ^ (k + low f))))
+shift f (negsuc k) h =
+    let g = exponent-le (suc k) (low f) h in
+    (low f - suc k, one-mul (2 ^ low f) ∙ ap (λ (z : ℕ). 2 ^ z) (sym (back (suc k) (low f) g)) ∙ pow-add 2 (low f - suc k) (suc k))
+
+pub fits-below : (f : Format) (s : Bool) (m : ℕ) (e : ℤ) → T (fits f (fin s m e)) → m * up e < 2 ^ suc (emax f) * down e
+unfolding fits
+fits-below f s zero e t = subst (λ (z : ℕ). z < 2 ^ suc (emax f) * down e) (sym (zero-mul (up e))) (mul-pos (pow-pos (suc (emax f))) (down-pos e))
+fits-below f s (suc m) e t =
+    ltb→lt (suc m * up e) (2 ^ suc (emax f) * down e) (four (eqb (suc m % 2) 1) (ltb (suc m) (2 ^ prec f)) (leb (down e) (2 ^ low f)) (ltb (suc m * up e) (2 ^ suc (emax f) * down e)) t .3)
+
+pub round-value : (f : Format) (x : Float) (s : Bool) (a c : ℕ) → 0 < c → T (fits f x) → HasValue x s a c → round f s a c ≡ x
+round-value f (fin t m e) s a c C h v =
+    let d = fits-digits f t m e h in
+    let (j, k) = shift f e (d .1) in
+    let D = down-pos e in
+    let units : m * 2 ^ j * down e ≡ m * up e * 2 ^ low f = mul-assoc m (2 ^ j) (down e) ∙ ap (λ (z : ℕ). m * z) (sym k) ∙ sym (mul-assoc m (up e) (2 ^ low f)) in
+    let below : m * 2 ^ j < 2 ^ (low f + suc (emax f)) =
+    lt-of-mul-lt-mul-right (down e)
+    (lt-of-le-of-lt (le-of-eq units)
+    (lt-of-lt-of-le (mul-lt-mul-of-pos-right (fits-below f t m e h) (pow-pos (low f)))
+    (le-of-eq (mul-right-comm (2 ^ suc (emax f)) (down e) (2 ^ low f) ∙ ap (λ (z : ℕ). z * down e) (mul-comm (2 ^ suc (emax f)) (2 ^ low f) ∙ sym (pow-add 2 (low f) (suc (emax f)))))))) in
+    let exact : a * 2 ^ low f ≡ m * 2 ^ j * c =
+    eq-of-mul-eq-mul-right (down e) D (a * 2 ^ low f) (m * 2 ^ j * c)
+    (mul-right-comm a (2 ^ low f) (down e) ∙ ap (λ (z : ℕ). z * 2 ^ low f) (sym (v .1)) ∙ mul-right-comm (m * up e) c (2 ^ low f) ∙ ap (λ (z : ℕ). z * c) (sym units) ∙ mul-right-comm (m * 2 ^ j) (down e) c) in
+    same-value f (round f s a c) (fin t m e) s a c C (round-fits f s a c) h (round-exact f s a c m j C (d .0) below exact) v

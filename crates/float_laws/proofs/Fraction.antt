@@ -1,12 +1,12 @@
--- A product, a quotient and a difference by any fractions that the operands equal: the exact result, rounded once. Assumes nothing.
+-- A product, a quotient, a sum and a difference by any fractions that the operands equal: the exact result, rounded once. Assumes nothing.
 use mathlib.Core.Path.{_≡_, refl, sym, ap, _∙_, subst, subst₂}
-use Prim.Native.Nat.{ℕ, _-_, _*_, _≤_, _<_}
+use Prim.Native.Nat.{ℕ, _+_, _-_, _*_, _≤_, _<_}
 use native.Mathlib.Nat.{le-trans, le-of-eq, not-le-of-lt, mul-comm, mul-assoc, mul-left-comm, mul-right-comm, mul-pos, mul-sub, mul-mul-mul-comm}
 use native.Mathlib.Omega.{arith}
 use mathlib.Core.Bool.{Bool, true, false, not, cond, _&&_, true≢false}
 use lib.IntN.{ℤ}
 use lib.Dec.{T, ltb, eqb, ltb→lt, eqb→eq}
-use lib.Ieee.{Float, nan, inf, fin, Format, up, down, unlike, round, sum, neg, mul, sub, div}
+use lib.Ieee.{Float, nan, inf, fin, Format, up, down, unlike, round, sum, neg, add, mul, sub, div}
 use lib.Ieee.Fits.{down-pos, up-pos}
 use lib.Ieee.Exact.{HasValue}
 use lib.Ieee.Order.{transfer}
@@ -48,6 +48,30 @@ div-at f (fin s' m e) (fin t' n g) s t a c b d C D B h k =
     cross =
         simp (mul-assoc, mul-comm, mul-left-comm)
         (simp (mul-assoc, mul-comm, mul-left-comm) at (ap (λ (z : ℕ). z * (b * down g)) (h .1) ∙ ap (λ (z : ℕ). a * down e * z) (sym (k .1))))
+
+-- ---- the sum of two values of the same sign
+
+alike : (f : Format) (s : Bool) (a b c : ℕ) → sum f s a s b c ≡ round f s (a + b) c
+unfolding sum
+alike f true a b c = refl
+alike f false a b c = refl
+
+pub add-at : (f : Format) (x y : Float) (s : Bool) (a c b d : ℕ) → 0 < c → 0 < d → HasValue x s a c → HasValue y s b d → add f x y ≡ round f s (a * d + b * c) (c * d)
+unfolding add
+add-at f (fin s' m e) (fin t' n g) s a c b d C D h k =
+    ap (λ (u : Bool). sum f u (m * up e * down g) t' (n * up g * down e) (down e * down g)) (h .0)
+    ∙ ap (λ (u : Bool). sum f s (m * up e * down g) u (n * up g * down e) (down e * down g)) (k .0)
+    ∙ alike f s (m * up e * down g) (n * up g * down e) (down e * down g)
+    ∙ round-same f s (m * up e * down g + n * up g * down e) (down e * down g) (a * d + b * c) (c * d) (mul-pos (down-pos e) (down-pos g)) (mul-pos C D) cross
+  where
+    left : m * up e * down g * (c * d) ≡ a * d * (down e * down g)
+    left = simp (mul-assoc, mul-comm, mul-left-comm) (simp (mul-assoc, mul-comm, mul-left-comm) at (ap (λ (z : ℕ). z * (down g * d)) (h .1)))
+
+    right : n * up g * down e * (c * d) ≡ b * c * (down e * down g)
+    right = simp (mul-assoc, mul-comm, mul-left-comm) (simp (mul-assoc, mul-comm, mul-left-comm) at (ap (λ (z : ℕ). z * (down e * c)) (k .1)))
+
+    cross : (m * up e * down g + n * up g * down e) * (c * d) ≡ (a * d + b * c) * (down e * down g)
+    cross = omega (arith, left, right)
 
 -- ---- the difference of two values that are not negative, the second no larger
 

@@ -6,3 +6,4 @@ pub mod Sum
 pub mod Product
 pub mod Exact
 pub mod Fraction
+pub mod Zero

@@ -1,6 +1,6 @@
--- Sums and differences of finite values: `add` and `sub` keep the order, are never `nan`, and a difference from itself is +0. `round-neg` is that of `Rounded`, passed on.
+-- Sums and differences of finite values: `add` and `sub` keep the order, are never `nan`, a sum is bounded by its terms' bounds, and a difference from itself is +0. `round-neg` is that of `Rounded`, passed on.
 -- Assumes nothing.
-use mathlib.Core.Path.{_≡_, refl, ap, _∙_, subst}
+use mathlib.Core.Path.{_≡_, refl, sym, ap, _∙_, subst}
 use mathlib.Core.Bool.{Bool, true, false, not, cond}
 use Prim.Native.Nat.{ℕ, _+_, _-_, _*_, _≤_, _<_}
 use native.Mathlib.Nat.{mul-le-mul-right, mul-pos}
@@ -11,7 +11,7 @@ use lib.Ieee.{Float, nan, inf, fin, Format, up, down, round, sum, add, sub, neg,
 use lib.Ieee.Fits.{down-pos}
 use lib.Ieee.Positive.{den, den-pos}
 use lib.Ieee.Scale.{finite}
-use Rattle.float_laws.proofs.Order.{plusZero, gain, loss, plus, le→cross, neg-anti, le-refl}
+use Rattle.float_laws.proofs.Order.{plusZero, gain, loss, plus, plus-finite, le→cross, neg-anti, le-refl, finite-between}
 use Rattle.float_laws.proofs.Cross.{neg-finite}
 use Rattle.float_laws.proofs.Rounded.{Rounded, more, less, rounded-mono, rounded-not-nan, round-zero, plus-of-round}
 pub use Rattle.float_laws.proofs.Rounded.{round-neg}
@@ -78,6 +78,30 @@ add-mono f x x' y y' p p' q q' h k =
 
 pub add-not-nan : (f : Format) (x y : Float) → T (finite x) → T (finite y) → T (not (isNan (add f x y)))
 add-not-nan f x y p q = rounded-not-nan f (gain x * den y + gain y * den x) (loss x * den y + loss y * den x) (den x * den y) (add f x y) (add-rounded f x y p q)
+
+-- ---- a sum within the bounds of its terms
+pub neg-add : (f : Format) (x y : Float) → T (plus x) → T (plus y) → neg (add f x y) ≡ add f (neg x) (neg y)
+unfolding neg
+neg-add f nan y p q = absurd p
+neg-add f (inf s) y p q = absurd p
+neg-add f (fin true m e) y p q = absurd p
+neg-add f (fin false m e) nan p q = absurd q
+neg-add f (fin false m e) (inf t) p q = absurd q
+neg-add f (fin false m e) (fin true n d) p q = absurd q
+neg-add f (fin false m e) (fin false n d) p q =
+    let a = m * up e * down d in
+    let b = n * up d * down e in
+    let c = down e * down d in
+    ap neg (add-is f false m e false n d ∙ same-is f false a b c) ∙ sym (round-neg f (a + b) c) ∙ sym (add-is f true m e true n d ∙ same-is f true a b c)
+
+pub add-bound : (f : Format) (x y b c : Float) → T (plus b) → T (plus c) → T (le (neg b) x) → T (le x b) → T (le (neg c) y) → T (le y c)
+    → T (le (neg (add f b c)) (add f x y)) × T (le (add f x y) (add f b c))
+add-bound f x y b c B C h h' k k' =
+    let p = plus-finite b B in
+    let q = plus-finite c C in
+    let u = finite-between (neg b) x b (neg-finite b p) p h h' in
+    let v = finite-between (neg c) y c (neg-finite c q) q k k' in
+    (rw (neg-add f b c B C) (add-mono f (neg b) x (neg c) y (neg-finite b p) u (neg-finite c q) v h k), add-mono f x b y c u p v q h' k')
 
 -- ---- the difference
 sub-is : (f : Format) (x y : Float) → sub f x y ≡ add f x (neg y)

@@ -1,0 +1,6 @@
+pub mod Structure
+pub mod Bounds
+pub mod Unit
+pub mod Rows
+pub mod Scores
+pub mod Softmax
