@@ -1,13 +1,13 @@
 -- The bounds of E below y = 120: the polynomial, its product with a power, and the last product, by 2 ^ -k, which is exact. Assumes nothing.
 use mathlib.Core.Path.{_≡_, refl, sym, ap, _∙_, subst}
-use Prim.Native.Nat.{ℕ, zero, suc, _+_, _-_, _*_, _/_, _%_, _^_, _≤_, _<_}
-use native.Mathlib.Nat.{le-trans, le-of-eq, le-of-lt, lt-of-lt-of-le, lt-of-le-of-lt, mul-one, one-mul, mul-comm, mul-le-mul-right, le-of-mul-le-mul-right, mul-pos, mod-lt, mul-assoc, mul-le-mul-left, lt-of-not-le, not-le-of-lt, div-lt-iff-lt-mul}
+use Prim.Native.Nat.{ℕ, _+_, _*_, _/_, _%_, _^_, _≤_, _<_}
+use native.Mathlib.Nat.{le-trans, le-of-eq, lt-of-le-of-lt, mul-one, one-mul, mul-comm, mul-le-mul-right, le-of-mul-le-mul-right, mul-pos, mod-lt, mul-assoc, mul-le-mul-left, lt-of-not-le, not-le-of-lt, div-lt-iff-lt-mul}
 use native.Mathlib.Omega.{arith}
-use mathlib.Core.Bool.{Bool, true, false, not, true≢false}
-use lib.IntN.{ℤ, pos, negsuc}
-use lib.Dec.{T, lit<, lit≤}
-use lib.Pow.{pow-add, pow-pos, pow-lt, pow-mono}
-use lib.Ieee.{Float, nan, inf, fin, binary32, up, down, minus, round, sub, mul, le, fits, ofBits}
+use mathlib.Core.Bool.{false}
+use lib.IntN.{pos, negsuc}
+use lib.Dec.{T, lit<}
+use lib.Pow.{pow-add, pow-pos, pow-mono}
+use lib.Ieee.{Float, fin, binary32, up, down, round, sub, mul, le, fits}
 use lib.Ieee.Fits.{mul-fits, down-pos}
 use lib.Ieee.Digits.{minus-val}
 use lib.Ieee.Exact.{HasValue}
@@ -19,11 +19,11 @@ use Rattle.float_laws.proofs.Sum.{sub-mono, sub-plus}
 use Rattle.float_laws.proofs.Product.{mul-mono, mul-plus}
 use Rattle.float_laws.proofs.Exact.{dyadic-exact, Dyadic, dyadic}
 use Rattle.float_laws.proofs.Fraction.{mul-at}
-use Rattle.exponential.specs.Power.{PowerRule, powerOf}
+use Rattle.exponential.specs.Power.{powerOf}
 use Rattle.exponential.specs.ExpNeg.{plusZero, one, c1, c2, halved, polyOf, restOf, wholePartOf, belowLimitOf}
 use Rattle.exponential.proofs.Power.{power-rule}
 use Rattle.exponential.proofs.Whole.{Ranged, whole-lt}
-use Rattle.exponential.proofs.Rest.{Rest, rest}
+use Rattle.exponential.proofs.Rest.{rest}
 
 -- ---- values between two others that are not negative
 

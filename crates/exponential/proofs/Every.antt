@@ -1,5 +1,5 @@
 -- A test that passes at every entry of a table, which antt computes once, passes at each of them; and what the parts of such a test say. Assumes nothing.
-use mathlib.Core.Path.{_≡_, refl, _∙_, subst, sym}
+use mathlib.Core.Path.{refl, _∙_, subst, sym}
 use mathlib.Core.Bool.{Bool, true, false, _&&_}
 use mathlib.Core.List.{List, [], _∷_}
 use Prim.Native.Nat.{ℕ, zero, suc, _+_, _*_, _<_}

@@ -1,13 +1,11 @@
 -- The examples G and H at the edges, about the definitions themselves, by computation. Assumes nothing.
 use mathlib.Core.Path.{_≡_, refl}
-use mathlib.Core.Bool.{false, true}
-use lib.IntN.{pos, negsuc}
-use lib.Ieee.{Float, inf, fin, binary32, ofBits, toBits, add, sub, mul, div, le, lt, isNan, ofInt, round}
-use Rattle.exponential.specs.declared.Exponential.the-variants.{Value, NoValue}
-use Rattle.exponential.specs.declared.DefaultScale.the-variants.{Scale, NoScale}
-use Rattle.exponential.specs.Power.{powerBits, powerOf}
-use Rattle.exponential.specs.Scale.{scaleBits, defaultScaleOf}
-use Rattle.exponential.specs.ExpNeg.{plusZero, one, limit, log2e, c1, c2, restOf, polyOf, belowLimitOf, scaledOf, expNegOf, wholePartOf}
+use mathlib.Core.Bool.{false}
+use lib.IntN.{negsuc}
+use lib.Ieee.{fin, binary32, ofBits}
+use Rattle.exponential.specs.declared.DefaultScale.the-variants.{Scale}
+use Rattle.exponential.specs.Scale.{defaultScaleOf}
+use Rattle.exponential.specs.ExpNeg.{plusZero, one, limit, belowLimitOf, scaledOf}
 
 -- G: y 0, 0.5, 1 and 120 give 1, the value with the bits 3F3504F3, 0.5 and +0
 pub record ExampleG : Type 0 where

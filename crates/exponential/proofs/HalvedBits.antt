@@ -1,12 +1,12 @@
 -- The bits of 2 ^ -k, for k below 120, by one computed test. Assumes nothing.
 use mathlib.Core.Path.{_≡_, sym, ap, _∙_}
-use Prim.Native.Nat.{ℕ, zero, suc, _-_, _*_, _^_, _<_}
+use Prim.Native.Nat.{ℕ, zero, suc, _-_, _*_, _<_}
 use native.Mathlib.Nat.{le-of-suc-le-suc, not-suc-le-zero, eq-or-lt-of-le}
 use mathlib.Core.Logic.{inl, inr}
 use mathlib.Core.Path.{subst}
 use mathlib.Core.Bool.{Bool, true, not, _&&_}
 use lib.Dec.{T, eqb, eqb→eq}
-use lib.Ieee.{Float, binary32, fits, ofBits, toBits, nanBits}
+use lib.Ieee.{binary32, fits, ofBits, toBits, nanBits}
 use lib.Ieee.Bits.{ofBits-toBits}
 use lib.Ieee.Fits.{and-l, and-r}
 use Rattle.exponential.specs.ExpNeg.{halved}

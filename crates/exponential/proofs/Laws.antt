@@ -4,11 +4,10 @@ use mathlib.Core.Logic.{inl, inr}
 use mathlib.Core.List.{List, [], _∷_, map}
 use Prim.Native.Nat.{ℕ, zero, suc, _<_}
 use native.Mathlib.Nat.{not-suc-le-zero, le-of-suc-le-suc}
-use mathlib.Core.Bool.{Bool, true, false, not, _||_, _&&_}
-use lib.IntN.{pos}
-use lib.Dec.{T, T-not}
+use mathlib.Core.Bool.{Bool, true, false, not, _||_}
+use lib.Dec.{T}
 use lib.ListN.{length, getD, length-map}
-use lib.Ieee.{Float, nan, inf, fin, binary32, ofBits, add, sub, mul, le, lt, isNan, fits}
+use lib.Ieee.{Float, nan, inf, fin, binary32, sub, mul, le, lt, isNan, fits}
 use lib.Ieee.Fits.{mul-fits, and-i}
 use lib.Ieee.Bits.{is-true, is-false}
 use lib.Ieee.Scale.{finite}
@@ -17,8 +16,8 @@ use Rattle.float_laws.proofs.Product.{mul-mono, mul-not-nan}
 use Rattle.exponential.specs.declared.Exponential.{Exponential}
 use Rattle.exponential.specs.declared.Exponential.the-variants.{Value, NoValue}
 use Rattle.exponential.specs.ExpNeg.{plusZero, one, limit, log2e, inRange, belowLimitOf, scaledOf, pickFloat, pickExponential, expNegOf, valueOrZero, expNegRowOf}
-use Rattle.exponential.proofs.Whole.{minusZero, in-range, Ranged}
-use Rattle.exponential.proofs.Bounds.{Within, below-limit-within}
+use Rattle.exponential.proofs.Whole.{minusZero, in-range}
+use Rattle.exponential.proofs.Bounds.{below-limit-within}
 
 -- a number from 0 to 1, and never -0
 pub record InUnit (x : Float) : Type 0 where

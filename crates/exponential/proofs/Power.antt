@@ -1,14 +1,13 @@
 -- The power table obeys its rule at each of its 256 entries, by one computed test over the whole table, and the rule leaves no other choice. Assumes nothing.
-use mathlib.Core.Path.{_≡_, refl, sym, subst}
+use mathlib.Core.Path.{_≡_}
 use Prim.Native.Nat.{ℕ, _+_, _-_, _*_, _^_, _≤_, _<_}
-use native.Mathlib.Nat.{le-antisymm, lt-trans, lt-of-not-le, not-le-of-lt, pow-le-pow-left, le-of-suc-le-suc}
+use native.Mathlib.Nat.{le-antisymm, lt-trans, lt-of-not-le, not-le-of-lt, pow-le-pow-left}
 use native.Mathlib.Omega.{arith}
-use mathlib.Core.Bool.{Bool, true, false, not, _&&_}
-use lib.Dec.{T, leb, ltb, eqb, leb→le, ltb→lt, eqb→eq}
-use lib.ListN.{length, getD}
-use lib.Ieee.{Float, nan, inf, fin, binary32, up, down, ofBits, nanBits}
+use mathlib.Core.Bool.{Bool, false, not, _&&_}
+use lib.Dec.{T, leb, ltb, leb→le, ltb→lt}
+use lib.ListN.{getD}
+use lib.Ieee.{binary32, ofBits, nanBits}
 use lib.Ieee.Exact.{HasValue}
-use lib.Ieee.Fits.{and-l, and-r}
 use Rattle.exponential.specs.Power.{PowerRule, powerBits, powerOf}
 use Rattle.exponential.proofs.Every.{every, at, isFraction, fraction→value, three, four}
 

@@ -1,19 +1,19 @@
 -- The rest r = y - n / 256, for y from 0 to below 120, is exact, not negative and below 1 / 256. Assumes nothing.
 use mathlib.Core.Path.{_≡_, refl, sym, ap, _∙_, subst}
-use Prim.Native.Nat.{ℕ, zero, suc, _+_, _-_, _*_, _/_, _%_, _^_, _≤_, _<_}
-use native.Mathlib.Nat.{le-refl, le-trans, le-of-eq, le-of-lt, lt-of-lt-of-le, lt-of-le-of-lt, mul-one, mul-comm, mul-assoc, mul-pos, mul-div-cancel, div-mul-le-self, div-add-mod', mod-lt, mul-right-comm, mul-le-mul-left, mul-le-mul-right}
+use Prim.Native.Nat.{ℕ, _+_, _-_, _*_, _/_, _%_, _^_, _≤_, _<_}
+use native.Mathlib.Nat.{le-trans, le-of-eq, le-of-lt, lt-of-le-of-lt, mul-one, mul-comm, mul-pos, mul-div-cancel, div-mul-le-self, div-add-mod', mod-lt, mul-right-comm}
 use native.Mathlib.Omega.{arith}
 use native.Mathlib.Decide.{decLe}
-use mathlib.Core.Bool.{Bool, true, false}
+use mathlib.Core.Bool.{false}
 use lib.IntN.{pos}
 use lib.Dec.{lit<}
 use lib.Pow.{pow-add, pow-pos}
-use lib.Ieee.{Float, nan, inf, fin, binary32, up, down, round, sub, div, ofInt}
+use lib.Ieee.{Float, fin, binary32, round, sub, div, ofInt}
 use lib.Ieee.Exact.{HasValue}
 use lib.Ieee.Nearest.{div-same}
 use lib.Ieee.Back.{round-whole}
 use lib.Ieee.Scale.{round-same}
-use Rattle.float_laws.proofs.Exact.{dyadic-exact, Dyadic, rescaled}
+use Rattle.float_laws.proofs.Exact.{dyadic-exact}
 use Rattle.float_laws.proofs.Fraction.{div-at, sub-at}
 use Rattle.exponential.specs.ExpNeg.{wholePartOf, restOf}
 use Rattle.exponential.proofs.Whole.{Ranged, whole-part, whole-lt}

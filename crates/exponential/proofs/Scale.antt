@@ -1,19 +1,20 @@
--- The default-scale table obeys its rule at each head size from 1 to 256, by one computed test over the whole table, and the rule leaves no other choice. Assumes nothing.
-use mathlib.Core.Path.{_≡_, refl, sym, ap, _∙_, subst}
+-- The default-scale table obeys its rule at each head size from 1 to 256, by one computed test over the whole table, the rule leaves no other choice, and each scale is above 0 and at most 1. Assumes nothing.
+use mathlib.Core.Path.{_≡_, sym, ap, _∙_, subst}
 use mathlib.Core.Logic.{_⊎_, inl, inr}
 use Prim.Native.Nat.{ℕ, suc, _+_, _-_, _*_, _/_, _%_, _^_, _≤_, _<_}
-use native.Mathlib.Nat.{le-antisymm, le-trans, lt-trans, lt-of-lt-of-le, lt-of-le-of-lt, lt-of-not-le, not-le-of-lt, mul-le-mul, mul-le-mul-right, mul-le-mul-left, mul-assoc, mul-comm, le-of-eq, le-of-suc-le-suc}
+use native.Mathlib.Nat.{le-antisymm, le-trans, lt-trans, lt-of-le-of-lt, lt-of-not-le, not-le-of-lt, mul-le-mul, mul-le-mul-right, le-of-eq, le-of-suc-le-suc}
 use native.Mathlib.Decide.{decLe}
 use native.Mathlib.Omega.{arith}
-use mathlib.Core.Bool.{Bool, true, false, not, _&&_}
+use mathlib.Core.Bool.{Bool, false, not, _&&_}
 use lib.Dec.{T, leb, ltb, leb→le, le→leb, ltb→lt, not-T}
 use lib.Pow.{pow-add, pow-mono, pow-lt}
-use lib.ListN.{length, getD}
-use lib.Ieee.{Float, binary32, ofBits, nanBits}
+use lib.ListN.{getD}
+use lib.Ieee.{Float, binary32, ofBits, nanBits, lt, le}
 use lib.Ieee.Exact.{HasValue}
 use lib.Ieee.Fits.{and-i, and-l, and-r}
 use lib.Ieee.Bits.{is-true, is-false}
 use Rattle.exponential.specs.declared.DefaultScale.the-variants.{Scale, NoScale}
+use Rattle.exponential.specs.ExpNeg.{plusZero, one}
 use Rattle.exponential.specs.Scale.{ScaleRule, scaleBits, defaultScaleOf, pickScale}
 use Rattle.exponential.proofs.Every.{every, at, isFraction, fraction→value, three, four}
 
@@ -152,3 +153,23 @@ default-scale D a b =
 
     back : (D : ℕ) → 1 ≤ D → suc (D - 1) ≡ D
     back D a = omega arith
+
+-- ---- the size of a scale
+
+between : ℕ → ℕ → Bool
+between i b = lt plusZero (ofBits binary32 b) && le (ofBits binary32 b) one
+
+all-between : T (every between 0 scaleBits)
+unfolding between scaleBits ofBits lt le
+all-between = tt
+
+-- the default scale of a head size from 1 to 256 is above 0 and at most 1
+pub default-scale-bounds : (D : ℕ) → 1 ≤ D → D ≤ 256 → (s : Float) × (defaultScaleOf D ≡ Scale s) × T (lt plusZero s) × T (le s one)
+unfolding between
+default-scale-bounds D a b =
+    let s = ofBits binary32 (getD scaleBits (D - 1) 0) in
+    let t : T (lt plusZero s && le s one) = at between scaleBits all-between (D - 1) (unfold scaleBits in before D a b) in
+    (s, scale-where D a b, and-l (lt plusZero s) (le s one) t, and-r (lt plusZero s) (le s one) t)
+  where
+    before : (D : ℕ) → 1 ≤ D → D ≤ 256 → D - 1 < 256
+    before D a b = omega arith

@@ -2,24 +2,22 @@
 -- The rest r = y - n / 256 is exact, and below 1 / 256. Assumes nothing.
 use mathlib.Core.Path.{_≡_, refl, sym, ap, _∙_, subst}
 use mathlib.Core.Logic.{_⊎_, inl, inr}
-use Prim.Native.Nat.{ℕ, zero, suc, _+_, _-_, _*_, _/_, _%_, _^_, _≤_, _<_, min}
-use native.Mathlib.Nat.{le-refl, le-trans, le-of-eq, lt-of-lt-of-le, lt-of-le-of-lt, mul-one, one-mul, zero-mul, mul-zero, mul-comm, mul-assoc, mul-pos, mul-le-mul-right, lt-of-mul-lt-mul-right, mul-lt-mul-of-pos-right, mul-right-comm, div-lt-iff-lt-mul, div-mul-le-self, div-add-mod', eq-zero-or-pos, mod-lt}
+use Prim.Native.Nat.{ℕ, suc, _+_, _*_, _/_, _^_, _≤_, _<_, min}
+use native.Mathlib.Nat.{le-refl, le-of-eq, lt-of-lt-of-le, lt-of-le-of-lt, mul-one, zero-mul, mul-comm, mul-assoc, mul-pos, mul-le-mul-right, lt-of-mul-lt-mul-right, mul-lt-mul-of-pos-right, mul-right-comm, div-lt-iff-lt-mul, div-mul-le-self, eq-zero-or-pos}
 use native.Mathlib.Omega.{arith}
-use native.Mathlib.Decide.{decLe}
-use mathlib.Core.Bool.{Bool, true, false, not, cond, _&&_, _||_, true≢false}
-use lib.IntN.{ℤ, pos, negsuc}
-use lib.Dec.{T, leb, ltb, eqb, ltb→lt, lt→ltb, eqb→eq, lit<, lit≤}
-use lib.Pow.{pow-add, pow-pos}
-use lib.Ieee.{Float, nan, inf, fin, binary32, up, down, round, sub, mul, div, le, lt, fits, ofInt, toUnsigned}
+use mathlib.Core.Bool.{true, false, true≢false}
+use lib.IntN.{ℤ, pos}
+use lib.Dec.{T, eqb, ltb→lt, lt→ltb, eqb→eq, lit<, lit≤}
+use lib.Pow.{pow-pos}
+use lib.Ieee.{Float, nan, inf, fin, binary32, up, down, round, mul, le, lt, fits, toUnsigned}
 use lib.Ieee.Fits.{and-l, and-r, down-pos, up-pos}
 use lib.Ieee.Exact.{HasValue}
 use lib.Ieee.Nearest.{div-same}
-use lib.Ieee.Positive.{first-pos}
-use lib.Ieee.Back.{round-whole}
-use lib.Ieee.Scale.{round-same}
-use Rattle.float_laws.proofs.Exact.{same-value, scaled-exact, dyadic-exact, Dyadic, dyadic}
-use Rattle.float_laws.proofs.Fraction.{mul-at, div-at, sub-at}
-use Rattle.exponential.specs.ExpNeg.{plusZero, limit, wholePartOf, inRange, restOf}
+use lib.Ieee.Positive.{num, den}
+use lib.Ieee.Scale.{finite}
+use Rattle.float_laws.proofs.Exact.{same-value, scaled-exact, Dyadic, dyadic}
+use Rattle.float_laws.proofs.Fraction.{mul-at}
+use Rattle.exponential.specs.ExpNeg.{plusZero, limit, wholePartOf, inRange}
 
 -- ---- a y in range is -0, or not negative and of the form q / 2 ^ w
 
@@ -146,3 +144,7 @@ cut-ranged y r =
 
 pub cut-exact : (y : Float) → T (fits binary32 y) → T (inRange y) → Cut y
 cut-exact y t h = elim (in-range y t h) [ inl e ↦ subst Cut (sym e) cut-minus-zero | inr r ↦ cut-ranged y r ]
+
+-- ---- n is the largest whole number not above 256 * y, for the finite y = num y / den y
+pub whole-largest : (y : Float) → T (finite y) → (wholePartOf y * den y ≤ 256 * num y) × (256 * num y < suc (wholePartOf y) * den y)
+whole-largest (fin s m e) p = (div-mul-le-self (256 * (m * up e)) (down e), div-lt-iff-lt-mul (down-pos e) .0 (le-refl (suc (256 * (m * up e) / down e))))

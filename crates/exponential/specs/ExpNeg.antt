@@ -2,8 +2,8 @@
 use mathlib.Core.List.{List, map}
 use Prim.Native.Nat.{ℕ, _*_, _/_, _%_}
 use mathlib.Core.Bool.{Bool, true, false, _||_, _&&_}
-use lib.IntN.{pos, negsuc}
-use lib.Ieee.{Float, nan, inf, fin, binary32, up, down, minus, add, sub, mul, div, le, lt, isNan, ofInt, ofBits}
+use lib.IntN.{pos}
+use lib.Ieee.{Float, nan, inf, fin, binary32, up, down, minus, sub, mul, div, le, lt, isNan, ofInt, ofBits}
 use Rattle.exponential.specs.declared.Exponential.{Exponential}
 use Rattle.exponential.specs.declared.Exponential.the-variants.{Value, NoValue}
 use Rattle.exponential.specs.Power.{powerOf}

@@ -1,7 +1,7 @@
 -- What is read from bits and written as bits is no NaN: a pattern that the comparison lets through, an entry of the power table, a default scale. Assumes nothing.
-use mathlib.Core.Path.{_≡_, refl, sym, ap, _∙_, subst}
+use mathlib.Core.Path.{_≡_, refl, sym, _∙_, subst}
 use mathlib.Core.Bool.{Bool, true, false, not, _&&_}
-use Prim.Native.Nat.{ℕ, _-_, _%_, _≤_, _<_}
+use Prim.Native.Nat.{ℕ, _-_, _%_, _≤_}
 use native.Mathlib.Omega.{arith}
 use borrow.Author.Tests.{ltb-true, le-ltb}
 use lib.Dec.{T, ltb, leb, leb→le}
@@ -9,10 +9,8 @@ use lib.ListN.{getD}
 use lib.Ieee.{Float, binary32, ofBits, nanBits, isNan}
 use lib.Ieee.Bits.{nanBits-is, nanBits-above}
 use lib.Ieee.Fits.{and-l, and-r}
-use Rattle.exponential.specs.declared.PowerEntry.{PowerEntry}
-use Rattle.exponential.specs.declared.PowerEntry.the-variants.{Entry, NoEntry}
-use Rattle.exponential.specs.declared.DefaultScale.{DefaultScale}
-use Rattle.exponential.specs.declared.DefaultScale.the-variants.{Scale, NoScale}
+use Rattle.exponential.specs.declared.PowerEntry.the-variants.{Entry}
+use Rattle.exponential.specs.declared.DefaultScale.the-variants.{Scale}
 use Rattle.exponential.specs.Power.{powerBits, powerOf, powerEntryOf, pickPower}
 use Rattle.exponential.specs.Scale.{scaleBits, defaultScaleOf, pickScale}
 use Rattle.exponential.proofs.Power.{power-not-nan}

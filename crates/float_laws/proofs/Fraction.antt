@@ -1,12 +1,12 @@
 -- A product, a quotient, a sum and a difference by any fractions that the operands equal: the exact result, rounded once. Assumes nothing.
-use mathlib.Core.Path.{_≡_, refl, sym, ap, _∙_, subst, subst₂}
+use mathlib.Core.Path.{_≡_, refl, sym, ap, _∙_, subst}
 use Prim.Native.Nat.{ℕ, _+_, _-_, _*_, _≤_, _<_}
-use native.Mathlib.Nat.{le-trans, le-of-eq, not-le-of-lt, mul-comm, mul-assoc, mul-left-comm, mul-right-comm, mul-pos, mul-sub, mul-mul-mul-comm}
+use native.Mathlib.Nat.{not-le-of-lt, mul-comm, mul-assoc, mul-left-comm, mul-pos, mul-sub, mul-mul-mul-comm}
 use native.Mathlib.Omega.{arith}
-use mathlib.Core.Bool.{Bool, true, false, not, cond, _&&_, true≢false}
+use mathlib.Core.Bool.{Bool, true, false, cond, true≢false}
 use lib.IntN.{ℤ}
 use lib.Dec.{T, ltb, eqb, ltb→lt, eqb→eq}
-use lib.Ieee.{Float, nan, inf, fin, Format, up, down, unlike, round, sum, neg, add, mul, sub, div}
+use lib.Ieee.{Float, nan, inf, fin, Format, up, down, unlike, round, sum, add, mul, sub, div}
 use lib.Ieee.Fits.{down-pos, up-pos}
 use lib.Ieee.Exact.{HasValue}
 use lib.Ieee.Order.{transfer}

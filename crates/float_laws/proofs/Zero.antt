@@ -1,14 +1,13 @@
 -- Sums and quotients with +0. Assumes nothing.
-use mathlib.Core.Path.{_≡_, refl, sym, ap, _∙_}
+use mathlib.Core.Path.{_≡_, refl, ap, _∙_}
 use Prim.Native.Nat.{ℕ, _+_, _*_, _<_}
-use native.Mathlib.Nat.{mul-one, add-zero, zero-mul, mul-pos}
+use native.Mathlib.Nat.{add-zero, zero-mul, mul-pos}
 use native.Mathlib.Omega.{arith}
-use mathlib.Core.Bool.{Bool, true, false}
-use lib.IntN.{ℤ, pos}
+use mathlib.Core.Bool.{true, false}
+use lib.IntN.{ℤ}
 use lib.Dec.{T, ltb→lt, lit<}
-use lib.Ieee.{Float, nan, inf, fin, Format, up, down, round, sum, add, div, lt, fits}
+use lib.Ieee.{Float, fin, Format, up, down, round, sum, add, div, lt, fits}
 use lib.Ieee.Fits.{down-pos}
-use lib.Ieee.Exact.{HasValue}
 use Rattle.float_laws.proofs.Order.{plusZero, plus}
 use Rattle.float_laws.proofs.Exact.{round-value}
 use Rattle.float_laws.proofs.Fraction.{div-at}

@@ -4,25 +4,22 @@ use mathlib.Core.Bool.{Bool, true, false, not, _||_, true≢false}
 use mathlib.Core.List.{List, map}
 use Prim.Native.Nat.{ℕ, zero, suc, _≤_, _<_}
 use native.Mathlib.Nat.{le-refl, le-trans, le-suc}
-use native.Mathlib.Omega.{arith}
 use lib.IntN.{ℤ}
 use lib.Dec.{T}
-use lib.ListN.{length, getD, length-map, List·getD-map}
+use lib.ListN.{length, length-map, List·getD-map}
 use lib.Seq.{ext-getD}
-use lib.Ieee.{Float, nan, inf, fin, binary32, add, sub, div, lt, le, eq, fits, isNan}
+use lib.Ieee.{Float, nan, inf, fin, binary32, add, sub, div, lt, eq, fits, isNan}
 use lib.Ieee.Fits.{add-fits}
 use lib.Ieee.Scale.{finite}
 use Rattle.float_laws.proofs.Order.{lt-of-lt-of-le as lt-of-lt-of-le-float}
 use Rattle.float_laws.proofs.Zero.{add-zero-right, zero-div}
-use Rattle.tensor_laws.specs.Layout.{tabulate}
 use Rattle.tensor_laws.proofs.Tabulate.{length-tabulate, getD-tabulate}
 use Rattle.exponential.specs.ExpNeg.{plusZero, one, expNegOf, expNegRowOf, valueOrZero}
-use Rattle.exponential.specs.declared.Exponential.{Exponential}
 use Rattle.exponential.proofs.Laws.{InUnit, no-value-where, value-at-infinity, length-row, getD-row}
 use Rattle.softmax.specs.Row.{Largest, noneSeen, largest, largestOf, termOf, addWhere, sumOf, weightWhere, weightOf, isNone, fullyMaskedOf}
 use Rattle.softmax.specs.Lists.{elementOf, hidden, isHidden, isScoreRow, seesOf, scoreOrHidden, largestRowOf, totalRowOf, softmaxRowOf, maskedRowOf}
 use Rattle.softmax.proofs.Structure.{masked-unseen, hidden-weight-zero, agree-sum}
-use Rattle.softmax.proofs.Unit.{largest-finite, largest-reached, term-in-unit, InSum, sum-at-most, sum-at-least-one}
+use Rattle.softmax.proofs.Unit.{largest-finite, largest-reached, term-in-unit, sum-at-most, sum-at-least-one}
 use Rattle.softmax.proofs.Scores.{isScore, score-at}
 
 -- ---- positions that are seen, and those that are not

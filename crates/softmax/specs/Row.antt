@@ -2,8 +2,7 @@
 -- Steps 1 and 3 to 5 of the rounding order; each operation is one f32 operation, and positions rise. Definitions only.
 use Prim.Native.Nat.{ℕ, zero, suc}
 use mathlib.Core.Bool.{Bool, true, false}
-use lib.IntN.{pos}
-use lib.Ieee.{Float, fin, binary32, add, sub, mul, div, lt}
+use lib.Ieee.{Float, binary32, add, sub, mul, div, lt}
 use Rattle.exponential.specs.ExpNeg.{plusZero, expNegOf, valueOrZero}
 
 -- ---- step 1

@@ -18,9 +18,6 @@ use Rattle.exponential.proofs.HalvedBits.{halved-bits, halved-not-nan}
 use borrow.Author.Needs.{needs}
 use Rattle.exponential.proofs.below_limit.Statement.{statement}
 use Rattle.exponential.proofs.below_limit.Tie as tie
-use Rattle.exponential.proofs.below_limit.Reads as reads
-use Rattle.exponential.proofs.below_limit.Lts as lts
-use Rattle.exponential.proofs.whole_part.Reads as whole-part-reads
 
 -- src/lib.rt:58:9
 whole-part-requires : tie.Need-whole-part-requires

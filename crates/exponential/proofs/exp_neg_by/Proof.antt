@@ -1,12 +1,12 @@
 -- `exponential::exp_neg_by` meets its contract: the three tests are those of the definition, and below the limit y is in range. Assumes nothing.
-use mathlib.Core.Path.{_≡_, refl, sym, ap, _∙_, subst}
+use mathlib.Core.Path.{_≡_, sym, ap, _∙_, subst}
 use mathlib.Core.Bool.{Bool, true, false, not, _||_}
-use lib.Dec.{T, T-not, not-T}
+use lib.Dec.{T, T-not}
 use lib.Ieee.{Float, nan, inf, fin, binary32, ne, lt, le, mul, isNan, ofBits, nanBits}
 use lib.Ieee.Compare.{differs-from-itself, nan-differs}
 use denote.Floats.{passes}
-use Rattle.exponential.specs.declared.Exponential.the-variants.{Value, NoValue}
-use Rattle.exponential.specs.ExpNeg.{plusZero, limit, log2e, expNegOf}
+use Rattle.exponential.specs.declared.Exponential.the-variants.{Value}
+use Rattle.exponential.specs.ExpNeg.{plusZero, limit, log2e}
 use Rattle.exponential.proofs.Laws.{hasValue, value-where, no-value-where, value-at-limit, in-range-below, scaled-below}
 use Rattle.exponential.proofs.exp_neg_by.Statement.{statement}
 use Rattle.exponential.proofs.exp_neg_by.Tie as tie

@@ -1,6 +1,6 @@
 -- `exponential::exp_neg_row` meets its contract. The loop's invariant: the elements before i are mapped, the others are as they were. Assumes nothing.
-use mathlib.Core.Path.{_≡_, refl, sym, ap, _∙_, subst}
-use Prim.Native.Nat.{ℕ, _≤_, _-_}
+use mathlib.Core.Path.{_≡_, refl, ap, _∙_}
+use Prim.Native.Nat.{_≤_, _-_}
 use native.Mathlib.Omega.{arith}
 use borrow.Author.Needs.{needs}
 use mathlib.Core.List.{List}
@@ -11,9 +11,6 @@ use Rattle.exponential.specs.Power.{powerBits}
 use Rattle.exponential.specs.ExpNeg.{expNegOf, expNegRowOf, valueOrZero}
 use Rattle.exponential.proofs.exp_neg_row.Statement.{statement}
 use Rattle.exponential.proofs.exp_neg_row.Tie as tie
-use Rattle.exponential.proofs.exp_neg_row.Reads as reads
-use Rattle.exponential.proofs.exp_neg_row.Lts as lts
-use Rattle.exponential.proofs.exp_neg_or_zero.Reads as exp-neg-or-zero-reads
 
 -- what an element becomes
 abbrev eachOf : Float → Float → Float

@@ -5,11 +5,9 @@ use native.Mathlib.Omega.{arith}
 use lib.Ieee.{ofBits}
 use denote.Floats.{passes}
 use Rattle.exponential.specs.ExpNeg.{wholePartOf}
-use Rattle.exponential.proofs.Whole.{Cut, cut-exact}
+use Rattle.exponential.proofs.Whole.{cut-exact}
 use Rattle.exponential.proofs.whole_part.Statement.{statement}
 use Rattle.exponential.proofs.whole_part.Tie as tie
-use Rattle.exponential.proofs.whole_part.Reads as reads
-use Rattle.exponential.proofs.whole_part.Lts as lts
 
 truncating-f32-to-u64-requires : tie.Need-truncating-f32-to-u64-requires
 unfolding ofBits

@@ -1,9 +1,7 @@
 -- `softmax::softmax_row` meets its contract: the row's largest element tells whether it is fully masked, and either way the steps give its weights. Assumes nothing.
-use mathlib.Core.Path.{_≡_, sym, ap, _∙_, subst}
-use mathlib.Core.Bool.{true, false}
+use mathlib.Core.Path.{_≡_, sym, ap, _∙_}
 use mathlib.Core.List.{List, map}
 use borrow.Author.Needs.{needs}
-use lib.ListN.{length}
 use lib.Ieee.{Float, binary32, div, neg, eq, ofBits, nanBits}
 use Rattle.exponential.specs.ExpNeg.{expNegRowOf}
 use Rattle.softmax.specs.Lists.{hidden, largestRowOf, totalRowOf}

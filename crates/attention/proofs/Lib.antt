@@ -1,0 +1,4 @@
+pub mod Starred
+pub mod Facts
+pub mod Bounded
+pub mod Weights

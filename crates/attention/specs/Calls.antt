@@ -1,0 +1,88 @@
+-- Small calls for the worked examples: one batch, one head, D = Dv = 1, scale 1, rank 4. Definitions only.
+use mathlib.Core.List.{List, [], _∷_}
+use Prim.Native.Nat.{ℕ, _+_}
+use mathlib.Core.Bool.{false}
+use lib.IntN.{pos}
+use lib.ListN.{replicate}
+use lib.Ieee.{Float, fin}
+use Rattle.exponential.specs.ExpNeg.{plusZero, one}
+use Rattle.call.specs.declared.Call.{Call}
+use Rattle.call.specs.declared.Form.{Form}
+use Rattle.call.specs.declared.Form.the-variants.{Plain, Cached}
+use Rattle.call.specs.declared.MaskKind.{MaskKind}
+use Rattle.call.specs.declared.MaskKind.the-variants.{NoMask, Boolean}
+use Rattle.call.specs.declared.Scale.the-variants.{Given}
+use Rattle.call.specs.declared.ScoreMode.{ScoreMode}
+use Rattle.call.specs.declared.Answer.the-variants.{Done}
+use Rattle.call.specs.Tensors.{Inputs, Outputs}
+use Rattle.attention.specs.Outcomes.{Outcome}
+
+-- a whole number from 0 to 255, as a float: m * 2 ^ k
+abbrev pub number : ℕ → ℕ → Float
+number m k = fin false m (pos k)
+
+-- a small call: its form, mask kind, score mode, causal flag, P, Sq and Sk; the mask's dimensions are (1, 1, 1, Sk)
+abbrev pub small : Form → MaskKind → ScoreMode → (causal past qlen klen : ℕ) → Call
+small form mask mode causal past qlen klen = record {
+  form = form;
+  mask = mask;
+  scale = Given one;
+  mode = mode;
+  rank = 4;
+  causal = causal;
+  batches = 1;
+  qheads = 1;
+  kvheads = 1;
+  qlen = qlen;
+  klen = klen;
+  past = past;
+  size = 1;
+  vsize = 1;
+  maskb = 1;
+  maskh = 1;
+  maskq = 1;
+  maskk = klen;
+}
+
+-- Q, K, V, and the boolean mask
+abbrev pub lending : (query key value : List Float) → List ℕ → Inputs
+lending query key value mask = record {
+  query = query;
+  key = key;
+  value = value;
+  boolMask = mask;
+  floatMask = [];
+  pastKey = [];
+  pastValue = [];
+  live = [];
+}
+
+-- the same with past caches, and no mask
+abbrev pub lendingPast : (query key value pastKey pastValue : List Float) → Inputs
+lendingPast query key value pastKey pastValue = record {
+  query = query;
+  key = key;
+  value = value;
+  boolMask = [];
+  floatMask = [];
+  pastKey = pastKey;
+  pastValue = pastValue;
+  live = [];
+}
+
+abbrev pub tensors : (output presentKey presentValue scores work : List Float) → Outputs
+tensors output presentKey presentValue scores work = record {
+  output = output;
+  presentKey = presentKey;
+  presentValue = presentValue;
+  scores = scores;
+  work = work;
+}
+
+-- n zeros, to be written over
+abbrev pub zeros : ℕ → List Float
+zeros n = replicate n plusZero
+
+-- done, with T, the number of fully masked rows and the tensors
+abbrev pub done : (total masked : ℕ) → Outputs → Outcome
+done total masked y = record { answer = Done total masked; tensors = y }

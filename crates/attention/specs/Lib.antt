@@ -1,0 +1,6 @@
+pub mod Elements
+pub mod Admission
+pub mod Formula
+pub mod Outcomes
+pub mod Calls
+pub mod Table

@@ -1,0 +1,1 @@
+// The whole call of attention.

@@ -1,0 +1,101 @@
+-- A call is accepted exactly where none of the nine refusals applies. Assumes nothing.
+use mathlib.Core.Path.{_≡_, refl, sym, ap, _∙_, subst}
+use Prim.Native.Nat.{ℕ}
+use native.Mathlib.Omega.{arith}
+use mathlib.Core.Bool.{Bool, true, false}
+use Rattle.call.specs.declared.Call.{Call}
+use Rattle.call.specs.declared.Answer.{Answer}
+use Rattle.call.specs.declared.Answer.the-variants.{Limits, HeadGroups, Settings, MaskShape, InputLength, OutputLength, LiveCount, MaskCell, Element}
+use Rattle.call.specs.declared.Verdict.{Verdict}
+use Rattle.call.specs.declared.Verdict.the-variants.{Accepted, Refused}
+use Rattle.call.specs.Tensors.{Inputs, Outputs}
+use Rattle.call.specs.Limits.{limitsHold, groupsHold, settingsHold, maskShapeHolds}
+use Rattle.call.specs.Lengths.{inputsFit, outputsFit}
+use Rattle.call.specs.Contents.{Found, nothing, at, liveFault, byteMaskFault, floatMaskFault, tensorFault, incomingFault}
+use Rattle.call.specs.Refusals.{unless, whereFound, _then_, recordVerdict, lengthsVerdict, cellsVerdict, elementsVerdict, verdictOf}
+
+-- none of the nine refusals applies
+pub record Accepts (c : Call) (x : Inputs) (y : Outputs) : Type 0 where
+  pub limits : limitsHold c ≡ true
+  pub groups : groupsHold c ≡ true
+  pub settings : settingsHold c ≡ true
+  pub maskShape : maskShapeHolds c ≡ true
+  pub inputs : inputsFit c x ≡ true
+  pub outputs : outputsFit c y ≡ true
+  pub live : liveFault c (x .live) ≡ nothing
+  pub bytes : byteMaskFault (x .boolMask) ≡ nothing
+  pub cells : floatMaskFault (x .floatMask) ≡ nothing
+  pub query : tensorFault (x .query) ≡ nothing
+  pub pastKey : tensorFault (x .pastKey) ≡ nothing
+  pub key : incomingFault c (x .live) (c .size) (x .key) ≡ nothing
+  pub pastValue : tensorFault (x .pastValue) ≡ nothing
+  pub value : incomingFault c (x .live) (c .vsize) (x .value) ≡ nothing
+
+not-refused : (a : Answer) → Refused a ≡ Accepted → ⊥
+not-refused a e = let z : _≡_ {A = ℕ} 0 1 = cc in omega arith
+
+both : (v w : Verdict) → v then w ≡ Accepted → (v ≡ Accepted) × (w ≡ Accepted)
+both Accepted w e = (refl, e)
+both (Refused a) w e = absurd (not-refused a e)
+
+and-then : {v w : Verdict} → v ≡ Accepted → w ≡ Accepted → v then w ≡ Accepted
+and-then {w = w} p q = ap (λ u. u then w) p ∙ q
+
+held : (b : Bool) (a : Answer) → unless b a ≡ Accepted → b ≡ true
+held true a e = refl
+held false a e = absurd (not-refused a e)
+
+none : (f : Found) (answer : ℕ → Answer) → whereFound f answer ≡ Accepted → f ≡ nothing
+none nothing answer e = refl
+none (at i) answer e = absurd (not-refused (answer i) e)
+
+pub verdict→accepts : (c : Call) (x : Inputs) (y : Outputs) → verdictOf c x y ≡ Accepted → Accepts c x y
+unfolding verdictOf
+verdict→accepts c x y e =
+    let p = both (recordVerdict c) (lengthsVerdict c x y then cellsVerdict c x then elementsVerdict c x) e in
+    let q = both (lengthsVerdict c x y) (cellsVerdict c x then elementsVerdict c x) (p .1) in
+    let r = both (cellsVerdict c x) (elementsVerdict c x) (q .1) in
+    let p1 = both (unless (limitsHold c) Limits) (unless (groupsHold c) HeadGroups then unless (settingsHold c) Settings then unless (maskShapeHolds c) MaskShape) (p .0) in
+    let p2 = both (unless (groupsHold c) HeadGroups) (unless (settingsHold c) Settings then unless (maskShapeHolds c) MaskShape) (p1 .1) in
+    let p3 = both (unless (settingsHold c) Settings) (unless (maskShapeHolds c) MaskShape) (p2 .1) in
+    let q1 = both (unless (inputsFit c x) InputLength) (unless (outputsFit c y) OutputLength) (q .0) in
+    let cells = whereFound (floatMaskFault (x .floatMask)) MaskCell in
+    let r1 = both (whereFound (liveFault c (x .live)) LiveCount) (whereFound (byteMaskFault (x .boolMask)) MaskCell then cells) (r .0) in
+    let r2 = both (whereFound (byteMaskFault (x .boolMask)) MaskCell) cells (r1 .1) in
+    let v4 = whereFound (incomingFault c (x .live) (c .vsize) (x .value)) (Element 4) in
+    let v3 = whereFound (tensorFault (x .pastValue)) (Element 3) in
+    let v2 = whereFound (incomingFault c (x .live) (c .size) (x .key)) (Element 2) in
+    let v1 = whereFound (tensorFault (x .pastKey)) (Element 1) in
+    let s1 = both (whereFound (tensorFault (x .query)) (Element 0)) (v1 then v2 then v3 then v4) (r .1) in
+    let s2 = both v1 (v2 then v3 then v4) (s1 .1) in
+    let s3 = both v2 (v3 then v4) (s2 .1) in
+    let s4 = both v3 v4 (s3 .1) in
+    record {
+      limits = held (limitsHold c) Limits (p1 .0);
+      groups = held (groupsHold c) HeadGroups (p2 .0);
+      settings = held (settingsHold c) Settings (p3 .0);
+      maskShape = held (maskShapeHolds c) MaskShape (p3 .1);
+      inputs = held (inputsFit c x) InputLength (q1 .0);
+      outputs = held (outputsFit c y) OutputLength (q1 .1);
+      live = none (liveFault c (x .live)) LiveCount (r1 .0);
+      bytes = none (byteMaskFault (x .boolMask)) MaskCell (r2 .0);
+      cells = none (floatMaskFault (x .floatMask)) MaskCell (r2 .1);
+      query = none (tensorFault (x .query)) (Element 0) (s1 .0);
+      pastKey = none (tensorFault (x .pastKey)) (Element 1) (s2 .0);
+      key = none (incomingFault c (x .live) (c .size) (x .key)) (Element 2) (s3 .0);
+      pastValue = none (tensorFault (x .pastValue)) (Element 3) (s4 .0);
+      value = none (incomingFault c (x .live) (c .vsize) (x .value)) (Element 4) (s4 .1);
+    }
+
+pub accepts→verdict : (c : Call) (x : Inputs) (y : Outputs) → Accepts c x y → verdictOf c x y ≡ Accepted
+unfolding verdictOf
+accepts→verdict c x y a =
+    and-then
+    (and-then (ap (λ b. unless b Limits) (a .limits)) (and-then (ap (λ b. unless b HeadGroups) (a .groups)) (and-then (ap (λ b. unless b Settings) (a .settings)) (ap (λ b. unless b MaskShape) (a .maskShape)))))
+    (and-then (and-then (ap (λ b. unless b InputLength) (a .inputs)) (ap (λ b. unless b OutputLength) (a .outputs)))
+    (and-then
+    (and-then (ap (λ f. whereFound f LiveCount) (a .live)) (and-then (ap (λ f. whereFound f MaskCell) (a .bytes)) (ap (λ f. whereFound f MaskCell) (a .cells))))
+    (and-then (ap (λ f. whereFound f (Element 0)) (a .query))
+    (and-then (ap (λ f. whereFound f (Element 1)) (a .pastKey))
+    (and-then (ap (λ f. whereFound f (Element 2)) (a .key))
+    (and-then (ap (λ f. whereFound f (Element 3)) (a .pastValue)) (ap (λ f. whereFound f (Element 4)) (a .value))))))))

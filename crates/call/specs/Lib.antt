@@ -1,0 +1,6 @@
+pub mod Answers
+pub mod Tensors
+pub mod Limits
+pub mod Lengths
+pub mod Contents
+pub mod Refusals

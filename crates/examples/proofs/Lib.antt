@@ -1,0 +1,2 @@
+pub mod SecondChunk
+pub mod EmptyPrograms

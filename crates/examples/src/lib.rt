@@ -1,0 +1,1 @@
+// The worked examples at the edges, as statements about the definitions. No functions.

@@ -1,0 +1,92 @@
+-- A tensor of the right length has no element at fault exactly where none of its cells is: the cells of every batch, head, position and column are all its elements. Assumes nothing.
+use mathlib.Core.Path.{_≡_, refl, ap, _∙_, subst}
+use mathlib.Core.List.{List}
+use mathlib.Core.Bool.{Bool, true, false, _&&_}
+use Prim.Native.Nat.{ℕ, _+_, _*_, _/_, _%_, _<_}
+use native.Mathlib.Nat.{div-lt-iff-lt-mul, div-add-mod', mod-lt}
+use native.Mathlib.Omega.{arith}
+use lib.IntN.{ℤ}
+use lib.Dec.{ltb}
+use lib.ListN.{length, getD}
+use lib.Ieee.{Float, nan}
+use borrow.Author.Tests.{lt-ltb}
+use Rattle.tensor_laws.specs.Layout.{slot, batchAt, headAt, positionAt}
+use Rattle.tensor_laws.proofs.Slots.{slot-at, batch-lt, head-lt, position-lt, right-factor-pos, left-factor-pos}
+use Rattle.tensor_laws.proofs.Rows.{index-lt}
+use Rattle.call.specs.declared.Call.{Call}
+use Rattle.call.specs.Limits.{totalOf}
+use Rattle.call.specs.Contents.{nothing, elementFault, tensorFault, incomingFault, lookedAt, liveOf}
+use Rattle.call.proofs.Search.{nothing→clear, clear→nothing}
+use Rattle.attention.specs.Elements.{cellAt}
+
+-- a statement on the index of every cell holds of every index below the tensor's length
+pub by-cells : (rank batches heads len size : ℕ) (P : ℕ → Type 0)
+    → ((b h s k : ℕ) → b < batches → h < heads → s < len → k < size → P (slot rank heads len b h s * size + k))
+    → (i : ℕ) → i < batches * heads * len * size → P i
+by-cells rank batches heads len size P p i l =
+    let rows : ℕ = batches * heads * len in
+    let n : ℕ = i / size in
+    let sp : 0 < size = right-factor-pos rows size i l in
+    let m : n < rows = div-lt-iff-lt-mul sp .1 l in
+    let lp : 0 < len = right-factor-pos (batches * heads) len n m in
+    let hp : 0 < heads = right-factor-pos batches heads 0 (left-factor-pos (batches * heads) len n m) in
+    subst P (ap (λ (j : ℕ). j * size + i % size) (slot-at rank heads len n hp lp) ∙ div-add-mod' i size)
+    (p (batchAt heads len n) (headAt rank heads len n) (positionAt rank heads len n) (i % size)
+    (batch-lt batches heads len n m) (head-lt rank heads len n hp) (position-lt rank heads len n lp) (mod-lt i sp))
+
+-- no cell is at fault
+abbrev pub GoodCells : (batches heads len size : ℕ) → (ℕ → ℕ → ℕ → ℕ → Float) → Type 0
+GoodCells batches heads len size cell =
+    (b h i k : ℕ) → b < batches → h < heads → i < len → k < size → elementFault (cell b h i k) ≡ false
+
+module _ (rank batches heads len size : ℕ) (t : List Float) (fits : length t ≡ batches * heads * len * size) where
+  inside : (b h i k : ℕ) → b < batches → h < heads → i < len → k < size → slot rank heads len b h i * size + k < length t
+  inside b h i k hb hh hi hk = rw fits (index-lt rank batches heads len size b h i k hb hh hi hk)
+
+  -- no element of a tensor of the right length is at fault exactly where no cell is
+  pub nothing→good : tensorFault t ≡ nothing → GoodCells batches heads len size (cellAt t rank heads len size)
+  unfolding tensorFault
+  nothing→good e b h i k hb hh hi hk =
+      nothing→clear (λ i x. elementFault x) nan t e (slot rank heads len b h i * size + k) (inside b h i k hb hh hi hk)
+
+  pub good→nothing : GoodCells batches heads len size (cellAt t rank heads len size) → tensorFault t ≡ nothing
+  unfolding tensorFault
+  good→nothing g =
+      clear→nothing (λ i x. elementFault x) nan t
+      (λ k l. by-cells rank batches heads len size (λ i. elementFault (getD t i nan) ≡ false) g k (rw fits at l))
+
+both-false : (a b : Bool) → a ≡ true → a && b ≡ false → b ≡ false
+both-false true b p e = e
+both-false false b p e = absurd (let z : _≡_ {A = ℕ} 0 1 = cc in omega arith)
+
+and-false : (a b : Bool) → b ≡ false → a && b ≡ false
+and-false true b e = e
+and-false false b e = refl
+
+-- K or V of a call in which every position is live
+module _ (c : Call) (live : List ℤ) (whole : (b : ℕ) → liveOf c live b ≡ totalOf c) (size : ℕ) (t : List Float)
+    (fits : length t ≡ c .batches * c .kvheads * c .klen * size) where
+  looked : (i : ℕ) → i < length t → lookedAt c live size i ≡ true
+  looked i l =
+      let rows : ℕ = c .batches * c .kvheads * c .klen in
+      let m : i / size < rows = let l : i < rows * size = rw fits at l in div-lt-iff-lt-mul (right-factor-pos rows size i l) .1 l in
+      let p : positionAt (c .rank) (c .kvheads) (c .klen) (i / size) < c .klen =
+      position-lt (c .rank) (c .kvheads) (c .klen) (i / size) (right-factor-pos (c .batches * c .kvheads) (c .klen) (i / size) m) in
+      ap (ltb (c .past + positionAt (c .rank) (c .kvheads) (c .klen) (i / size))) (whole (batchAt (c .kvheads) (c .klen) (i / size)))
+      ∙ lt-ltb (c .past + positionAt (c .rank) (c .kvheads) (c .klen) (i / size)) (totalOf c) (omega arith)
+
+  -- no element of it that is looked at is at fault exactly where no cell is
+  pub nothing→good-incoming : incomingFault c live size t ≡ nothing → GoodCells (c .batches) (c .kvheads) (c .klen) size (cellAt t (c .rank) (c .kvheads) (c .klen) size)
+  unfolding incomingFault
+  nothing→good-incoming e b h i k hb hh hi hk =
+      let n : ℕ = slot (c .rank) (c .kvheads) (c .klen) b h i * size + k in
+      let l : n < length t = inside (c .rank) (c .batches) (c .kvheads) (c .klen) size t fits b h i k hb hh hi hk in
+      both-false (lookedAt c live size n) (elementFault (getD t n nan)) (looked n l)
+      (nothing→clear (λ i x. lookedAt c live size i && elementFault x) nan t e n l)
+
+  pub good→nothing-incoming : GoodCells (c .batches) (c .kvheads) (c .klen) size (cellAt t (c .rank) (c .kvheads) (c .klen) size) → incomingFault c live size t ≡ nothing
+  unfolding incomingFault
+  good→nothing-incoming g =
+      clear→nothing (λ i x. lookedAt c live size i && elementFault x) nan t
+      (λ k l. and-false (lookedAt c live size k) (elementFault (getD t k nan))
+      (by-cells (c .rank) (c .batches) (c .kvheads) (c .klen) size (λ i. elementFault (getD t i nan) ≡ false) g k (rw fits at l)))

@@ -1,0 +1,97 @@
+-- The corollary on cuts: chunks with tensors of the right lengths are all accepted exactly when the one plain call over all their positions is. Assumes nothing.
+use mathlib.Core.Path.{_≡_, refl, sym, _∙_, subst}
+use mathlib.Core.List.{List, [], _∷_, _++_, append-assoc, append-nil}
+use mathlib.Core.Bool.{Bool, true, false}
+use Prim.Native.Nat.{_+_, _*_, _≤_}
+use native.Mathlib.Omega.{arith}
+use lib.ListN.{length, length-append, length-replicate}
+use Rattle.exponential.specs.ExpNeg.{plusZero}
+use Rattle.call.specs.declared.Call.{Call}
+use Rattle.call.specs.Limits.{groupsHold, settingsHold}
+use Rattle.call.specs.Lengths.{inputsFit, outputsFit}
+use Rattle.sequence.specs.Positions.{Position}
+use Rattle.sequence.specs.Chunks.{Chunk, start, lengthOf, chunkCall, chunkInputs, chunkOutcome, positionsOf, plainAccepted, entered}
+use Rattle.sequence.specs.Demand.{isDone}
+use Rattle.sequence.specs.Cuts.{cachesFor, fitsAfter, allFit, allPositions, allAccepted, CutHolds}
+use Rattle.sequence.proofs.Places.{stateOf, AllGood, good-before, length-joined}
+use Rattle.sequence.proofs.Plain.{split, both, PlainGood, plain→good, good→plain}
+use Rattle.sequence.proofs.Step.{key-cache-length, value-cache-length, fits→entered, entered→plain}
+use Rattle.sequence.proofs.Kept.{next, state-entered, kept-start}
+use Rattle.sequence.proofs.Theorem.{done-entered}
+
+-- the plain call over the positions that a list begins with is accepted where that over all is and there is one at least
+plain-before : (s : Call) (book ps : List Position) → 1 ≤ length book → PlainGood s (book ++ ps) → PlainGood s book
+unfolding groupsHold settingsHold
+plain-before s book ps some p =
+    let n = length-append book ps in
+    record {
+      limited = record { dimensions = p .limited .dimensions; some = some; total = omega arith };
+      groups = p .groups;
+      settings = p .settings;
+      good = good-before s book ps (p .good);
+    }
+
+-- the caches of a history have the right lengths
+caches-fit : (s : Call) (book : List Position) (r : Chunk)
+    → inputsFit (chunkCall s (length book) r) (chunkInputs (cachesFor s (length book)) r) ≡ inputsFit (chunkCall s (length book) r) (chunkInputs (stateOf s book) r)
+unfolding inputsFit
+caches-fit s book r =
+    rw (
+      key-cache-length s book,
+      value-cache-length s book,
+      length-replicate (s .batches * s .kvheads * length book * s .size) plusZero,
+      length-replicate (s .batches * s .kvheads * length book * s .vsize) plusZero,
+    )
+
+-- a chunk that fits after a history is entered where the plain call over the history and it is accepted
+fits-entered : (s : Call) (book : List Position) (r : Chunk) → fitsAfter s (length book) r ≡ true → PlainGood s (book ++ positionsOf s r) → entered s (stateOf s book) book r ≡ true
+unfolding fitsAfter
+fits-entered s book r e p =
+    let f = split (inputsFit (chunkCall s (length book) r) (chunkInputs (cachesFor s (length book)) r)) (outputsFit (chunkCall s (length book) r) (r .lent)) e in
+    fits→entered s book r (sym (caches-fit s book r) ∙ f .0) (f .1) p
+
+-- after a history, chunks that fit are all accepted where the plain call over the history and all their positions is
+plain→all : (s : Call) (book : List Position) (rs : List Chunk) → AllGood s book → allFit s (length book) rs ≡ true → PlainGood s (book ++ allPositions s rs) → allAccepted s (stateOf s book) rs ≡ true
+unfolding allFit allPositions allAccepted
+plain→all s book [] good fit p = refl
+plain→all s book (r ∷ rs) good fit p =
+    let f = split (fitsAfter s (length book) r) (allFit s (length book + lengthOf r) rs) fit in
+    let n = length-joined s r book in
+    let w : PlainGood s (book ++ positionsOf s r ++ allPositions s rs) = subst (PlainGood s) (sym (append-assoc book (positionsOf s r) (allPositions s rs))) p in
+    let q = plain-before s (book ++ positionsOf s r) (allPositions s rs) (omega arith) w in
+    let e = fits-entered s book r (f .0) q in
+    let rest = plain→all s (book ++ positionsOf s r) rs (q .good) (subst (λ m. allFit s m rs ≡ true) (sym n) (f .1)) w in
+    both (done-entered s book r good ∙ e) (subst (λ st. allAccepted s st rs ≡ true) (sym (state-entered s book r e)) rest)
+
+-- where all chunks after a history are accepted, the plain call over the history and the first is, and the others are on its caches
+first-accepted : (s : Call) (book : List Position) (r : Chunk) (rs : List Chunk) → AllGood s book → allAccepted s (stateOf s book) (r ∷ rs) ≡ true
+    → PlainGood s (book ++ positionsOf s r) × (allAccepted s (stateOf s (book ++ positionsOf s r)) rs ≡ true)
+unfolding allAccepted
+first-accepted s book r rs good a =
+    let f = split (isDone (chunkOutcome s (stateOf s book) r .answer)) (allAccepted s (next s (stateOf s book) r) rs) a in
+    let e = sym (done-entered s book r good) ∙ f .0 in
+    (entered→plain s book r e, subst (λ st. allAccepted s st rs ≡ true) (state-entered s book r e) (f .1))
+
+-- after an accepted history, the plain call over the history and all positions of chunks is accepted where all of them are
+all→plain : (s : Call) (book : List Position) (rs : List Chunk) → PlainGood s book → allAccepted s (stateOf s book) rs ≡ true → PlainGood s (book ++ allPositions s rs)
+unfolding allPositions
+all→plain s book [] p a = subst (PlainGood s) (sym (append-nil book)) p
+all→plain s book (r ∷ rs) p a =
+    let f = first-accepted s book r rs (p .good) a in
+    subst (PlainGood s) (append-assoc book (positionsOf s r) (allPositions s rs)) (all→plain s (book ++ positionsOf s r) rs (f .0) (f .1))
+
+each-way : (a b : Bool) → (a ≡ true → b ≡ true) → (b ≡ true → a ≡ true) → a ≡ b
+each-way true b f g = sym (f refl)
+each-way false true f g = g refl
+each-way false false f g = refl
+
+-- however positions are cut into chunks with tensors of the right lengths, all are accepted exactly when the one plain call over all of them is
+pub cut-holds : (s : Call) (r : Chunk) (rs : List Chunk) → CutHolds s r rs
+unfolding allPositions
+cut-holds s r rs fit =
+    let k = kept-start s in
+    each-way (allAccepted s start (r ∷ rs)) (plainAccepted s (allPositions s (r ∷ rs)))
+    (λ a. let f = first-accepted s [] r rs (k .good) (subst (λ st. allAccepted s st (r ∷ rs) ≡ true) (k .state) a) in
+    good→plain s (allPositions s (r ∷ rs)) (all→plain s (positionsOf s r) rs (f .0) (f .1)))
+    (λ p. subst (λ st. allAccepted s st (r ∷ rs) ≡ true) (sym (k .state))
+    (plain→all s [] (r ∷ rs) (k .good) fit (plain→good s (allPositions s (r ∷ rs)) p)))

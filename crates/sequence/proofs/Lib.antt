@@ -1,0 +1,10 @@
+pub mod Cells
+pub mod Places
+pub mod Plain
+pub mod Refusing
+pub mod Step
+pub mod Lays
+pub mod Outputs
+pub mod Kept
+pub mod Theorem
+pub mod Cuts

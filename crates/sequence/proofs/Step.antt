@@ -1,0 +1,205 @@
+-- One chunk on the caches of a history: no refusal applies to it exactly when it is entered, and what it then leaves. Assumes nothing.
+use mathlib.Core.Path.{_≡_, refl, ap, _∙_}
+use mathlib.Core.List.{List, [], _∷_, _++_}
+use mathlib.Core.Bool.{true, false, _&&_}
+use Prim.Native.Nat.{ℕ, _*_, _<_}
+use native.Mathlib.Omega.{arith}
+use lib.Dec.{eqb}
+use lib.Ieee.{nan}
+use lib.ListN.{length}
+use borrow.Author.Tests.{eqb-true}
+use Rattle.tensor_laws.proofs.Rows.{length-tensorOf, getD-tensorOf}
+use Rattle.call.specs.declared.Call.{Call}
+use Rattle.call.specs.declared.Form.the-variants.{Cached}
+use Rattle.call.specs.declared.Verdict.{Verdict}
+use Rattle.call.specs.declared.Verdict.the-variants.{Accepted, Refused}
+use Rattle.call.specs.Tensors.{Inputs}
+use Rattle.call.specs.Limits.{groupsHold, settingsHold, maskShapeHolds}
+use Rattle.call.specs.Lengths.{inputsFit, outputsFit}
+use Rattle.call.specs.Contents.{liveFault, byteMaskFault, floatMaskFault}
+use Rattle.call.specs.Refusals.{verdictOf}
+use Rattle.call.proofs.Accepted.{Accepts, verdict→accepts, accepts→verdict}
+use Rattle.attention.specs.Elements.{cellAt}
+use Rattle.attention.specs.Outcomes.{acceptedOf, outcomeWhere, attentionOf}
+use Rattle.sequence.specs.Positions.{Position, positionOf, keyCache, valueCache}
+use Rattle.sequence.specs.Chunks.{Chunk, State, lengthOf, chunkCall, chunkInputs, chunkOutcome, positionsOf, plainAccepted, entered}
+use Rattle.sequence.specs.Demand.{isDone}
+use Rattle.sequence.proofs.Cells.{nothing→good, good→nothing, nothing→good-incoming, good→nothing-incoming}
+use Rattle.sequence.proofs.Places.{stateOf, length-joined, AllGood, good-before, good-chunk, good-joined}
+use Rattle.sequence.proofs.Plain.{split, both, limits→limited, limited→limits, PlainGood, plain→good, good→plain}
+use Rattle.sequence.proofs.Refusing.{refused-not-done}
+
+-- ---- the caches of a history
+
+module _ (s : Call) (book : List Position) where
+  -- the caches of a history have the right lengths, and their cells are those of its positions
+  pub key-cache-length : length (keyCache s book) ≡ s .batches * s .kvheads * length book * s .size
+  unfolding keyCache
+  key-cache-length = length-tensorOf 4 (s .batches) (s .kvheads) (length book) (s .size) (λ b g j k. positionOf book j .key b g k)
+
+  pub value-cache-length : length (valueCache s book) ≡ s .batches * s .kvheads * length book * s .vsize
+  unfolding valueCache
+  value-cache-length = length-tensorOf 4 (s .batches) (s .kvheads) (length book) (s .vsize) (λ b g j k. positionOf book j .value b g k)
+
+  pub key-cache-cell : (b g j k : ℕ) → b < s .batches → g < s .kvheads → j < length book → k < s .size
+      → cellAt (keyCache s book) 4 (s .kvheads) (length book) (s .size) b g j k ≡ positionOf book j .key b g k
+  unfolding keyCache
+  key-cache-cell b g j k = getD-tensorOf 4 (s .batches) (s .kvheads) (length book) (s .size) (λ b g j k. positionOf book j .key b g k) b g j k nan
+
+  pub value-cache-cell : (b g j k : ℕ) → b < s .batches → g < s .kvheads → j < length book → k < s .vsize
+      → cellAt (valueCache s book) 4 (s .kvheads) (length book) (s .vsize) b g j k ≡ positionOf book j .value b g k
+  unfolding valueCache
+  value-cache-cell b g j k = getD-tensorOf 4 (s .batches) (s .kvheads) (length book) (s .vsize) (λ b g j k. positionOf book j .value b g k) b g j k nan
+
+-- ---- the lengths of a chunk's own tensors
+
+record Fits (s : Call) (r : Chunk) : Type 0 where
+  query : length (r .query) ≡ s .batches * s .qheads * lengthOf r * s .size
+  key : length (r .key) ≡ s .batches * s .kvheads * lengthOf r * s .size
+  value : length (r .value) ≡ s .batches * s .kvheads * lengthOf r * s .vsize
+  boolMask : length (r .boolMask) ≡ 0
+  floatMask : length (r .floatMask) ≡ 0
+  live : length (r .live) ≡ 0
+
+inputs→fits : (s : Call) (st : State) (past : ℕ) (r : Chunk) → inputsFit (chunkCall s past r) (chunkInputs st r) ≡ true → Fits s r
+unfolding inputsFit
+inputs→fits s st past r e =
+    let q = eqb (length (r .query)) (s .batches * s .qheads * lengthOf r * s .size) in
+    let k = eqb (length (r .key)) (s .batches * s .kvheads * lengthOf r * s .size) in
+    let v = eqb (length (r .value)) (s .batches * s .kvheads * lengthOf r * s .vsize) in
+    let m = eqb (length (r .boolMask)) 0 in
+    let f = eqb (length (r .floatMask)) 0 in
+    let pk = eqb (length (st .key)) (s .batches * s .kvheads * past * s .size) in
+    let pv = eqb (length (st .value)) (s .batches * s .kvheads * past * s .vsize) in
+    let l = eqb (length (r .live)) 0 in
+    let e7 = split (q && k && v && m && f && pk && pv) l e in
+    let e6 = split (q && k && v && m && f && pk) pv (e7 .0) in
+    let e5 = split (q && k && v && m && f) pk (e6 .0) in
+    let e4 = split (q && k && v && m) f (e5 .0) in
+    let e3 = split (q && k && v) m (e4 .0) in
+    let e2 = split (q && k) v (e3 .0) in
+    let e1 = split q k (e2 .0) in
+    record {
+      query = eqb-true (length (r .query)) (s .batches * s .qheads * lengthOf r * s .size) (e1 .0);
+      key = eqb-true (length (r .key)) (s .batches * s .kvheads * lengthOf r * s .size) (e1 .1);
+      value = eqb-true (length (r .value)) (s .batches * s .kvheads * lengthOf r * s .vsize) (e2 .1);
+      boolMask = eqb-true (length (r .boolMask)) 0 (e3 .1);
+      floatMask = eqb-true (length (r .floatMask)) 0 (e4 .1);
+      live = eqb-true (length (r .live)) 0 (e7 .1);
+    }
+
+-- a list of length 0 is empty
+pub empty : {A : Type 0} (l : List A) → length l ≡ 0 → l ≡ []
+empty [] e = refl
+empty (x ∷ l) e = absurd (omega arith)
+
+-- ---- accepted exactly when entered
+
+module _ (s : Call) (book : List Position) (r : Chunk) where
+  -- no refusal applies to a chunk only where none applies to the plain call over the history and it
+  accepts→plain : AllGood s book → Accepts (chunkCall s (length book) r) (chunkInputs (stateOf s book) r) (r .lent) → PlainGood s (book ++ positionsOf s r)
+  unfolding groupsHold settingsHold
+  accepts→plain good a =
+      let c = chunkCall s (length book) r in
+      let f = inputs→fits s (stateOf s book) (length book) r (a .inputs) in
+      let d = limits→limited s Cached (length book) (lengthOf r) (a .limits) in
+      let q = nothing→good (s .rank) (s .batches) (s .qheads) (lengthOf r) (s .size) (r .query) (f .query) (a .query) in
+      let k = nothing→good-incoming c (r .live) (λ b. refl) (s .size) (r .key) (f .key) (a .key) in
+      let v = nothing→good-incoming c (r .live) (λ b. refl) (s .vsize) (r .value) (f .value) (a .value) in
+      let n = length-joined s r book in
+      record {
+        limited = record { dimensions = d .dimensions; some = omega arith; total = omega arith };
+        groups = a .groups;
+        settings = a .settings;
+        good = good-joined s book r good
+            (λ i l. record {
+              query = λ b h n hb hh hn. q b h i n hb hh l hn;
+              key = λ b g n hb hg hn. k b g i n hb hg l hn;
+              value = λ b g n hb hg hn. v b g i n hb hg l hn;
+            });
+      }
+
+  -- none applies to a chunk of the right lengths where none applies to that plain call
+  plain→accepts : inputsFit (chunkCall s (length book) r) (chunkInputs (stateOf s book) r) ≡ true → outputsFit (chunkCall s (length book) r) (r .lent) ≡ true
+      → PlainGood s (book ++ positionsOf s r) → Accepts (chunkCall s (length book) r) (chunkInputs (stateOf s book) r) (r .lent)
+  unfolding groupsHold settingsHold maskShapeHolds liveFault byteMaskFault floatMaskFault
+  plain→accepts inputs outputs p =
+      let c = chunkCall s (length book) r in
+      let f = inputs→fits s (stateOf s book) (length book) r inputs in
+      let d = p .limited in
+      let new = good-chunk s book r (p .good) in
+      let old = good-before s book (positionsOf s r) (p .good) in
+      let n = length-joined s r book in
+      record {
+        limits = limited→limits s Cached (length book) (lengthOf r) refl (record { dimensions = d .dimensions; some = omega arith; total = omega arith });
+        groups = p .groups;
+        settings = p .settings;
+        maskShape = refl;
+        inputs = inputs;
+        outputs = outputs;
+        live = ap (liveFault c) (empty (r .live) (f .live));
+        bytes = ap byteMaskFault (empty (r .boolMask) (f .boolMask));
+        cells = ap floatMaskFault (empty (r .floatMask) (f .floatMask));
+        query = good→nothing (s .rank) (s .batches) (s .qheads) (lengthOf r) (s .size) (r .query) (f .query)
+            (λ b h i n hb hh l hn. new i l .query b h n hb hh hn);
+        pastKey = good→nothing 4 (s .batches) (s .kvheads) (length book) (s .size) (keyCache s book) (key-cache-length s book)
+            (λ b g i n hb hg l hn. rw (key-cache-cell s book b g i n hb hg l hn) (old i l .key b g n hb hg hn));
+        key = good→nothing-incoming c (r .live) (λ b. refl) (s .size) (r .key) (f .key)
+            (λ b g i n hb hg l hn. new i l .key b g n hb hg hn);
+        pastValue = good→nothing 4 (s .batches) (s .kvheads) (length book) (s .vsize) (valueCache s book) (value-cache-length s book)
+            (λ b g i n hb hg l hn. rw (value-cache-cell s book b g i n hb hg l hn) (old i l .value b g n hb hg hn));
+        value = good→nothing-incoming c (r .live) (λ b. refl) (s .vsize) (r .value) (f .value)
+            (λ b g i n hb hg l hn. new i l .value b g n hb hg hn);
+      }
+
+  -- a chunk of the right lengths is entered where none applies to that plain call
+  pub fits→entered : inputsFit (chunkCall s (length book) r) (chunkInputs (stateOf s book) r) ≡ true → outputsFit (chunkCall s (length book) r) (r .lent) ≡ true
+      → PlainGood s (book ++ positionsOf s r) → entered s (stateOf s book) book r ≡ true
+  unfolding entered
+  fits→entered inputs outputs p = both (both inputs outputs) (good→plain s (book ++ positionsOf s r) p)
+
+  entered→parts : entered s (stateOf s book) book r ≡ true
+      → (inputsFit (chunkCall s (length book) r) (chunkInputs (stateOf s book) r) ≡ true) × (outputsFit (chunkCall s (length book) r) (r .lent) ≡ true) × PlainGood s (book ++ positionsOf s r)
+  unfolding entered
+  entered→parts e =
+      let i = inputsFit (chunkCall s (length book) r) (chunkInputs (stateOf s book) r) in
+      let o = outputsFit (chunkCall s (length book) r) (r .lent) in
+      let e1 = split (i && o) (plainAccepted s (book ++ positionsOf s r)) e in
+      let e0 = split i o (e1 .0) in
+      (e0 .0, e0 .1, plain→good s (book ++ positionsOf s r) (e1 .1))
+
+  -- the plain call over the history and an entered chunk is accepted
+  pub entered→plain : entered s (stateOf s book) book r ≡ true → PlainGood s (book ++ positionsOf s r)
+  entered→plain e = entered→parts e .2
+
+  -- an entered chunk is accepted
+  pub entered-outcome : entered s (stateOf s book) book r ≡ true
+      → chunkOutcome s (stateOf s book) r ≡ acceptedOf (chunkCall s (length book) r) (chunkInputs (stateOf s book) r)
+  unfolding chunkOutcome attentionOf outcomeWhere
+  entered-outcome e =
+      let p = entered→parts e in
+      let c = chunkCall s (length book) r in
+      let x = chunkInputs (stateOf s book) r in
+      ap (λ v. outcomeWhere v c x (r .lent)) (accepts→verdict c x (r .lent) (plain→accepts (p .0) (p .1) (p .2)))
+
+  -- any other chunk is refused: its answer is not done, and every lent tensor is as before
+  pub other-outcome : AllGood s book → entered s (stateOf s book) book r ≡ false
+      → (isDone (chunkOutcome s (stateOf s book) r .answer) ≡ false) × (chunkOutcome s (stateOf s book) r .tensors ≡ r .lent)
+  unfolding chunkOutcome attentionOf outcomeWhere
+  other-outcome good e = go (verdictOf c x (r .lent)) refl
+    where
+      c : Call
+      c = chunkCall s (length book) r
+
+      x : Inputs
+      x = chunkInputs (stateOf s book) r
+
+      go : (v : Verdict) → verdictOf c x (r .lent) ≡ v → (isDone (outcomeWhere (verdictOf c x (r .lent)) c x (r .lent) .answer) ≡ false) × (outcomeWhere (verdictOf c x (r .lent)) c x (r .lent) .tensors ≡ r .lent)
+      go Accepted p =
+          let a = verdict→accepts c x (r .lent) p in
+          let t : entered s (stateOf s book) book r ≡ true = fits→entered (a .inputs) (a .outputs) (accepts→plain good a) in
+          absurd (let z : _≡_ {A = ℕ} 0 1 = cc in omega arith)
+      go (Refused a) p = (
+        ap (λ v. isDone (outcomeWhere v c x (r .lent) .answer)) p ∙ refused-not-done c x (r .lent) a p,
+        ap (λ v. outcomeWhere v c x (r .lent) .tensors) p,
+      )

@@ -1,0 +1,87 @@
+-- Demand 3: a recording in chunks gives what the one plain call over the positions that were entered gives, for every sequence of chunks. Assumes nothing.
+use mathlib.Core.Path.{_≡_, refl, sym, ap, _∙_, subst}
+use mathlib.Core.List.{List, [], _∷_, _++_}
+use mathlib.Core.Bool.{Bool, true, false}
+use Prim.Native.Nat.{ℕ, _+_, _≤_, _<_}
+use native.Mathlib.Omega.{arith}
+use lib.Ieee.{nan}
+use lib.ListN.{length, length-append}
+use Rattle.tensor_laws.proofs.Rows.{getD-tensorOf}
+use Rattle.call.specs.declared.Call.{Call}
+use Rattle.call.specs.declared.Answer.the-variants.{Done}
+use Rattle.attention.specs.Elements.{cellAt}
+use Rattle.attention.specs.Formula.{attentionOutput}
+use Rattle.attention.specs.Outcomes.{acceptedOf, outputTensor}
+use Rattle.sequence.specs.Positions.{Position, positionOf, plainCall, plainInputs}
+use Rattle.sequence.specs.Chunks.{Chunk, State, start, lengthOf, chunkCall, chunkInputs, chunkOutcome, stateAfter, positionsOf, entered, historyNext, historyAfter}
+use Rattle.sequence.specs.Demand.{isDone, ChunkHolds, Demand3}
+use Rattle.sequence.proofs.Places.{stateOf, AllGood, length-joined, position-old}
+use Rattle.sequence.proofs.Step.{entered→plain, entered-outcome, other-outcome}
+use Rattle.sequence.proofs.Outputs.{chunk-none-masked, chunk-row}
+use Rattle.sequence.proofs.Kept.{Kept, next, history-entered, kept-start, kept-after, history-extends, history-append}
+
+module _ (s : Call) (book : List Position) (r : Chunk) where
+  -- a chunk is accepted exactly when it is entered
+  pub done-entered : AllGood s book → isDone (chunkOutcome s (stateOf s book) r .answer) ≡ entered s (stateOf s book) book r
+  done-entered good = go (entered s (stateOf s book) book r) refl
+    where
+      go : (t : Bool) → entered s (stateOf s book) book r ≡ t → isDone (chunkOutcome s (stateOf s book) r .answer) ≡ entered s (stateOf s book) book r
+      go true e = ap (λ o. isDone (o .answer)) (entered-outcome s book r e) ∙ done ∙ sym e
+        where
+          done : isDone (acceptedOf (chunkCall s (length book) r) (chunkInputs (stateOf s book) r) .answer) ≡ true
+          done = unfold acceptedOf in refl
+      go false e = other-outcome s book r good e .0 ∙ sym e
+
+  answer-entered : entered s (stateOf s book) book r ≡ true → chunkOutcome s (stateOf s book) r .answer ≡ Done (length (historyNext s (stateOf s book) book r)) 0
+  unfolding acceptedOf
+  answer-entered e =
+      ap (λ o. o .answer) (entered-outcome s book r e)
+      ∙ (λ i. Done (sym (ap length (history-entered s (stateOf s book) book r e) ∙ length-joined s r book) i) (chunk-none-masked s book r i))
+
+  row-entered : (whole later : List Position) → whole ≡ historyNext s (stateOf s book) book r ++ later → entered s (stateOf s book) book r ≡ true
+      → (b h i k : ℕ) → b < s .batches → h < s .qheads → i < lengthOf r → k < s .vsize
+      → cellAt (chunkOutcome s (stateOf s book) r .tensors .output) (s .rank) (s .qheads) (lengthOf r) (s .vsize) b h i k
+      ≡ attentionOutput (plainCall s whole) (plainInputs s whole) b h (length book + i) k
+  unfolding acceptedOf outputTensor
+  row-entered whole later w e b h i k hb hh hi hk =
+      let c = chunkCall s (length book) r in
+      let x = chunkInputs (stateOf s book) r in
+      let ps = book ++ positionsOf s r in
+      let begins : whole ≡ ps ++ later = w ∙ ap (λ l. l ++ later) (history-entered s (stateOf s book) book r e) in
+      let n = length-joined s r book in
+      let long : length book + lengthOf r ≤ length whole = let m = ap length begins ∙ length-append ps later in omega arith in
+      ap (λ o. cellAt (o .tensors .output) (s .rank) (s .qheads) (lengthOf r) (s .vsize) b h i k) (entered-outcome s book r e)
+      ∙ getD-tensorOf (s .rank) (s .batches) (s .qheads) (lengthOf r) (s .vsize) (attentionOutput c x) b h i k nan hb hh hi hk
+      ∙ chunk-row s book r (entered→plain s book r e) whole long
+      (λ j l. ap (λ q. positionOf q j) begins ∙ position-old ps later j (omega arith))
+      b h i k hb hh hi hk
+
+  chunk-holds : AllGood s book → (whole later : List Position) → whole ≡ historyNext s (stateOf s book) book r ++ later → ChunkHolds s (stateOf s book) book r whole
+  chunk-holds good whole later w = record {
+    accepted = done-entered good;
+    answer = answer-entered;
+    refused = λ e. other-outcome s book r good e .1;
+    output = row-entered whole later w;
+  }
+
+-- what holds of one chunk, on a state that is the caches of the history
+kept-holds : (s : Call) (st : State) (book : List Position) (r : Chunk) (whole later : List Position) → Kept s st book → whole ≡ historyNext s st book r ++ later → ChunkHolds s st book r whole
+kept-holds s st book r whole later k =
+    subst (λ st. whole ≡ historyNext s st book r ++ later → ChunkHolds s st book r whole) (sym (k .state)) (chunk-holds s book r (k .good) whole later)
+
+-- of every sequence of chunks demand 3 holds
+pub demand3 : (s : Call) (runs : List Chunk) → Demand3 s runs
+unfolding historyAfter
+demand3 s runs =
+    let k = kept-after s start [] runs (kept-start s) in
+    record {
+      each = λ before r after e.
+          let st = stateAfter s start before in
+          let book = historyAfter s start [] before in
+          let later = history-extends s (next s st r) (historyNext s st book r) after in
+          kept-holds s st book r (historyAfter s start [] runs) (later .0) (kept-after s start [] before (kept-start s))
+          (ap (historyAfter s start []) e ∙ history-append s start [] before (r ∷ after) ∙ later .1);
+      total = ap (λ st. st .past) (k .state);
+      keys = ap (λ st. st .key) (k .state);
+      values = ap (λ st. st .value) (k .state);
+    }

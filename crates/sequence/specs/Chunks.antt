@@ -1,0 +1,128 @@
+-- Chunks (runs) of a recording: causal cached calls without a mask, each on the caches that the last accepted one left; and the history (the book) of the positions that were entered. Definitions only.
+use mathlib.Core.List.{List, [], _∷_, _++_}
+use Prim.Native.Nat.{ℕ, suc, _+_}
+use mathlib.Core.Bool.{Bool, true, false, _&&_}
+use lib.IntN.{ℤ}
+use lib.Ieee.{Float}
+use lib.ListN.{length}
+use Rattle.tensor_laws.specs.Layout.{tabulate}
+use Rattle.call.specs.declared.Call.{Call}
+use Rattle.call.specs.declared.Form.the-variants.{Plain, Cached}
+use Rattle.call.specs.declared.Answer.{Answer}
+use Rattle.call.specs.declared.Answer.the-variants.{Done, Limits, HeadGroups, Settings, MaskShape, InputLength, OutputLength, LiveCount, MaskCell, Element}
+use Rattle.call.specs.declared.Verdict.{Verdict}
+use Rattle.call.specs.declared.Verdict.the-variants.{Accepted, Refused}
+use Rattle.call.specs.Tensors.{Inputs, Outputs}
+use Rattle.call.specs.Lengths.{inputsFit, outputsFit}
+use Rattle.call.specs.Refusals.{verdictOf}
+use Rattle.attention.specs.Elements.{cellAt}
+use Rattle.attention.specs.Outcomes.{Outcome, attentionOf}
+use Rattle.sequence.specs.Positions.{Position, causalCall, plainCall, plainInputs, rightOutputs}
+
+-- A chunk of one position and `more`. Its tensors may have any lengths and bits; its past tensors are not its own.
+pub record Chunk : Type 0 where
+  pub more : ℕ
+  pub query : List Float
+  pub key : List Float
+  pub value : List Float
+  pub boolMask : List ℕ
+  pub floatMask : List Float
+  pub live : List ℤ
+  pub lent : Outputs
+
+-- Sq and Sk
+abbrev pub lengthOf : Chunk → ℕ
+lengthOf r = suc (r .more)
+
+-- what the last accepted chunk left: the T that it answered, and its two presents
+pub record State : Type 0 where
+  pub past : ℕ
+  pub key : List Float
+  pub value : List Float
+
+abbrev pub start : State
+start = record { past = 0; key = []; value = [] }
+
+-- ---- the call of a chunk, and what it leaves
+
+abbrev pub chunkCall : Call → ℕ → Chunk → Call
+chunkCall s past r = causalCall s Cached past (lengthOf r)
+
+abbrev pub chunkInputs : State → Chunk → Inputs
+chunkInputs st r = record {
+  query = r .query;
+  key = r .key;
+  value = r .value;
+  boolMask = r .boolMask;
+  floatMask = r .floatMask;
+  pastKey = st .key;
+  pastValue = st .value;
+  live = r .live;
+}
+
+unfoldable pub chunkOutcome : Call → State → Chunk → Outcome
+unfolding attentionOf
+chunkOutcome s st r = attentionOf (chunkCall s (st .past) r) (chunkInputs st r) (r .lent)
+
+-- the state after an answer: T and the presents where it is done, and the state before otherwise
+abbrev pub nextState : Answer → State → Outputs → State
+nextState (Done total masked) st y = record { past = total; key = y .presentKey; value = y .presentValue }
+nextState Limits st y = st
+nextState HeadGroups st y = st
+nextState Settings st y = st
+nextState MaskShape st y = st
+nextState InputLength st y = st
+nextState OutputLength st y = st
+nextState (LiveCount i) st y = st
+nextState (MaskCell i) st y = st
+nextState (Element t i) st y = st
+
+unfoldable pub stateAfter : Call → State → List Chunk → State
+unfolding chunkOutcome
+stateAfter s st [] = st
+stateAfter s st (r ∷ rs) = stateAfter s (nextState (chunkOutcome s st r .answer) st (chunkOutcome s st r .tensors)) rs
+
+-- ---- the history
+
+-- the positions that a chunk's Q, K and V hold, in rising order
+unfoldable pub positionsOf : Call → Chunk → List Position
+unfolding tabulate
+positionsOf s r =
+    tabulate (lengthOf r)
+    (λ i. record {
+      query = λ b h k. cellAt (r .query) (s .rank) (s .qheads) (lengthOf r) (s .size) b h i k;
+      key = λ b h k. cellAt (r .key) (s .rank) (s .kvheads) (lengthOf r) (s .size) b h i k;
+      value = λ b h k. cellAt (r .value) (s .rank) (s .kvheads) (lengthOf r) (s .vsize) b h i k;
+    })
+
+abbrev pub isAccepted : Verdict → Bool
+isAccepted Accepted = true
+isAccepted (Refused a) = false
+
+-- no refusal applies to the one plain call over the positions, with tensors of the right lengths
+unfoldable pub plainAccepted : Call → List Position → Bool
+unfolding verdictOf plainInputs rightOutputs
+plainAccepted s ps = isAccepted (verdictOf (plainCall s ps) (plainInputs s ps) (rightOutputs (plainCall s ps)))
+
+-- A chunk is entered exactly when its tensors have the right lengths and the plain call over the history's positions and then its own is one to which no refusal applies.
+unfoldable pub entered : Call → State → List Position → Chunk → Bool
+unfolding inputsFit outputsFit plainAccepted positionsOf
+entered s st book r =
+    inputsFit (chunkCall s (length book) r) (chunkInputs st r)
+    && outputsFit (chunkCall s (length book) r) (r .lent)
+    && plainAccepted s (book ++ positionsOf s r)
+
+abbrev pub joined : Bool → List Position → List Position → List Position
+joined true book ps = book ++ ps
+joined false book ps = book
+
+-- the history after a chunk, and after a sequence of chunks from a state and a history
+unfoldable pub historyNext : Call → State → List Position → Chunk → List Position
+unfolding entered positionsOf
+historyNext s st book r = joined (entered s st book r) book (positionsOf s r)
+
+unfoldable pub historyAfter : Call → State → List Position → List Chunk → List Position
+unfolding historyNext chunkOutcome
+historyAfter s st book [] = book
+historyAfter s st book (r ∷ rs) =
+    historyAfter s (nextState (chunkOutcome s st r .answer) st (chunkOutcome s st r .tensors)) (historyNext s st book r) rs

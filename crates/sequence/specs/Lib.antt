@@ -1,0 +1,4 @@
+pub mod Positions
+pub mod Chunks
+pub mod Demand
+pub mod Cuts
