@@ -28,7 +28,7 @@ use Rattle.call.specs.declared.Form.the-variants.{Plain, Cached, Counted}
 use Rattle.call.specs.declared.Scale.{Scale}
 use Rattle.call.specs.declared.Scale.the-variants.{Absent, Given}
 use Rattle.call.specs.Tensors.{Inputs, Outputs}
-use Rattle.call.specs.Limits.{totalOf, pastAllowed, scaleAllowed}
+use Rattle.call.specs.Limits.{groupsHold, totalOf, pastAllowed, scaleAllowed}
 use Rattle.call.specs.Lengths.{inCached, inCounted}
 use Rattle.call.specs.Contents.{nothing, countFault, liveFault, elementFault, countOf, liveIn, liveOf, tensorFault, lookedAt, incomingFault}
 use Rattle.call.proofs.Search.{nothing→clear}
@@ -87,6 +87,15 @@ looked c live size b g s k hg hs hk l =
     ∙ (λ i. ltb (c .past + position-slot (c .rank) (c .kvheads) (c .klen) b g s hg hs i) (liveOf c live (batch-slot (c .rank) (c .kvheads) (c .klen) b g s hg hs i)))
     ∙ is-true (ltb (c .past + s) (liveOf c live b)) (lt→ltb (c .past + s) (liveOf c live b) l)
 
+-- a query head's key head is one of the key heads, where the heads are grouped
+pub grouped-head-lt : (c : Call) → groupsHold c ≡ true → (h : ℕ) → h < c .qheads → keyHeadOf c h < c .kvheads
+grouped-head-lt c g h l =
+    let r = c .qheads / c .kvheads in
+    let e : r * c .kvheads + c .qheads % c .kvheads ≡ c .qheads = div-add-mod' (c .qheads) (c .kvheads) in
+    let z : c .qheads % c .kvheads ≡ 0 = groups→multiple c g in
+    let k : h < r * c .kvheads = omega arith in
+    div-lt-iff-lt-mul (left-factor-pos r (c .kvheads) h k) .1 (rw mul-comm at k)
+
 module _ {c : Call} {x : Inputs} {y : Outputs} (a : Accepts c x y) where
   -- a batch's live count is at most T
   pub live-le-total : (b : ℕ) → b < c .batches → liveOf c (x .live) b ≤ totalOf c
@@ -94,14 +103,8 @@ module _ {c : Call} {x : Inputs} {y : Outputs} (a : Accepts c x y) where
       live-in-le (c .form) (totalOf c) (c .batches) (x .live) (fit→lengths c x (a .inputs) .live)
       (nothing→clear (λ i n. countFault (totalOf c) n) (pos 0) (x .live) (unfold liveFault in a .live)) b h
 
-  -- a query head's key head is one of the key heads
   pub key-head-lt : (h : ℕ) → h < c .qheads → keyHeadOf c h < c .kvheads
-  key-head-lt h l =
-      let r = c .qheads / c .kvheads in
-      let e : r * c .kvheads + c .qheads % c .kvheads ≡ c .qheads = div-add-mod' (c .qheads) (c .kvheads) in
-      let z : c .qheads % c .kvheads ≡ 0 = groups→multiple c (a .groups) in
-      let k : h < r * c .kvheads = omega arith in
-      div-lt-iff-lt-mul (left-factor-pos r (c .kvheads) h k) .1 (rw mul-comm at k)
+  key-head-lt = grouped-head-lt c (a .groups)
 
   -- an element of a query row is within 65,536
   pub query-bounded : (b h i k : ℕ) → b < c .batches → h < c .qheads → i < c .qlen → k < c .size → T (bounded elementBound (queryAt c x b h i k))

@@ -1,7 +1,6 @@
 -- What an accepted call computes: every weight lies from 0 to 1, E is asked only where it has a value, no element of any tensor is NaN, and the tensors lent for writing do not matter as they came in. Assumes nothing.
 use mathlib.Core.Path.{_≡_, refl, sym, ap, _∙_, subst}
-use Prim.Native.Nat.{ℕ, zero, suc, _-_, _*_, _/_, _%_, _^_, _≤_, _<_, suc-le-suc}
-use native.Mathlib.Nat.{div-lt-iff-lt-mul, mod-lt, zero-lt-suc}
+use Prim.Native.Nat.{ℕ, zero, suc, _-_, _*_, _^_, _≤_, _<_}
 use native.Mathlib.Omega.{arith}
 use mathlib.Core.Bool.{Bool, true, false, not}
 use lib.Dec.{T, ltb, ltb→lt, lit≤}
@@ -9,8 +8,8 @@ use lib.ListN.{getD}
 use lib.Ieee.{Float, binary32, round, sub, le, isNan}
 use lib.Ieee.Scale.{finite}
 use Rattle.float_laws.proofs.Order.{plus-finite, finite-not-nan}
-use Rattle.tensor_laws.specs.Layout.{tabulate, tensorOf, batchAt, headAt, positionAt}
-use Rattle.tensor_laws.proofs.Slots.{batch-lt, head-lt, position-lt, right-factor-pos, left-factor-pos}
+use Rattle.tensor_laws.specs.Layout.{tensorOf}
+use Rattle.tensor_laws.proofs.Cells.{every-tabulate, every-cell}
 use Rattle.exponential.specs.ExpNeg.{plusZero, pickFloat}
 use Rattle.exponential.proofs.Laws.{InUnit, hasValue}
 use Rattle.softmax.specs.Row.{largest, largestOf}
@@ -47,30 +46,6 @@ accepted-outcome c x y e = ap (λ (v : Verdict). outcomeWhere v c x y) e
 -- two calls that differ only in the tensors lent for writing, both accepted, have the same outcome
 pub outputs-independent : (c : Call) (x : Inputs) (y y' : Outputs) → verdictOf c x y ≡ Accepted → verdictOf c x y' ≡ Accepted → attentionOf c x y ≡ attentionOf c x y'
 outputs-independent c x y y' e e' = accepted-outcome c x y e ∙ sym (accepted-outcome c x y' e')
-
--- ---- every element of a list by its cells
-
-every-tabulate : {A : Type 0} (P : A → Type 0) (n : ℕ) (f : ℕ → A) (d : A) → P d → ((k : ℕ) → k < n → P (f k)) → (i : ℕ) → P (getD (tabulate n f) i d)
-unfolding tabulate
-every-tabulate P zero f d p h i = p
-every-tabulate P (suc n) f d p h zero = h 0 (zero-lt-suc n)
-every-tabulate P (suc n) f d p h (suc i) = every-tabulate P n (λ k. f (suc k)) d p (λ k l. h (suc k) (suc-le-suc l)) i
-
-every-cell : {A : Type 0} (P : A → Type 0) (rank batches heads len size : ℕ) (cell : ℕ → ℕ → ℕ → ℕ → A) (d : A) → P d
-    → ((b h s k : ℕ) → b < batches → h < heads → s < len → k < size → P (cell b h s k)) → (i : ℕ) → P (getD (tensorOf rank batches heads len size cell) i d)
-unfolding tensorOf
-every-cell P rank batches heads len size cell d p f = every-tabulate P (batches * heads * len * size) _ d p element
-  where
-    element : (i : ℕ) → i < batches * heads * len * size → P (cell (batchAt heads len (i / size)) (headAt rank heads len (i / size)) (positionAt rank heads len (i / size)) (i % size))
-    element i l =
-        let n : ℕ = i / size in
-        let q : 0 < size = right-factor-pos (batches * heads * len) size i l in
-        let m : n < batches * heads * len = div-lt-iff-lt-mul q .1 l in
-        f (batchAt heads len n) (headAt rank heads len n) (positionAt rank heads len n) (i % size)
-        (batch-lt batches heads len n m)
-        (head-lt rank heads len n (right-factor-pos batches heads 0 (left-factor-pos (batches * heads) len n m)))
-        (position-lt rank heads len n (right-factor-pos (batches * heads) len n m))
-        (mod-lt i q)
 
 zero-in-unit : InUnit plusZero
 zero-in-unit = record { sign = tt; at-most = unfold le in tt }

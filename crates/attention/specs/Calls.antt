@@ -1,6 +1,6 @@
 -- Small calls for the worked examples: one batch, one head, D = Dv = 1, scale 1, rank 4. Definitions only.
-use mathlib.Core.List.{List, [], _∷_}
-use Prim.Native.Nat.{ℕ, _+_}
+use mathlib.Core.List.{List, []}
+use Prim.Native.Nat.{ℕ}
 use mathlib.Core.Bool.{false}
 use lib.IntN.{pos}
 use lib.ListN.{replicate}
@@ -8,9 +8,7 @@ use lib.Ieee.{Float, fin}
 use Rattle.exponential.specs.ExpNeg.{plusZero, one}
 use Rattle.call.specs.declared.Call.{Call}
 use Rattle.call.specs.declared.Form.{Form}
-use Rattle.call.specs.declared.Form.the-variants.{Plain, Cached}
 use Rattle.call.specs.declared.MaskKind.{MaskKind}
-use Rattle.call.specs.declared.MaskKind.the-variants.{NoMask, Boolean}
 use Rattle.call.specs.declared.Scale.the-variants.{Given}
 use Rattle.call.specs.declared.ScoreMode.{ScoreMode}
 use Rattle.call.specs.declared.Answer.the-variants.{Done}

@@ -4,7 +4,7 @@ use mathlib.Core.List.{List, [], _∷_}
 use Prim.Native.Nat.{ℕ}
 use mathlib.Core.Bool.{false, true}
 use lib.IntN.{ℤ, pos, negsuc}
-use lib.Ieee.{Float, nan, fin, lt}
+use lib.Ieee.{Float, nan, fin}
 use Rattle.call.specs.declared.Call.{Call}
 use Rattle.call.specs.declared.Form.{Form}
 use Rattle.call.specs.declared.Form.the-variants.{Plain, Counted}

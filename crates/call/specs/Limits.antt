@@ -3,7 +3,7 @@ use Prim.Native.Nat.{ℕ, _+_, _%_}
 use mathlib.Core.Bool.{Bool, true, false, _&&_, _||_}
 use lib.IntN.{pos}
 use lib.Dec.{leb, eqb}
-use lib.Ieee.{Float, fin, lt, le}
+use lib.Ieee.{fin, lt, le}
 use Rattle.call.specs.declared.Call.{Call}
 use Rattle.call.specs.declared.Form.{Form}
 use Rattle.call.specs.declared.Form.the-variants.{Plain, Cached, Counted}

@@ -1,38 +1,24 @@
 -- A tensor of the right length has no element at fault exactly where none of its cells is: the cells of every batch, head, position and column are all its elements. Assumes nothing.
-use mathlib.Core.Path.{_≡_, refl, ap, _∙_, subst}
+use mathlib.Core.Path.{_≡_, refl, ap, _∙_}
 use mathlib.Core.List.{List}
 use mathlib.Core.Bool.{Bool, true, false, _&&_}
-use Prim.Native.Nat.{ℕ, _+_, _*_, _/_, _%_, _<_}
-use native.Mathlib.Nat.{div-lt-iff-lt-mul, div-add-mod', mod-lt}
+use Prim.Native.Nat.{ℕ, _+_, _*_, _/_, _<_}
+use native.Mathlib.Nat.{div-lt-iff-lt-mul}
 use native.Mathlib.Omega.{arith}
 use lib.IntN.{ℤ}
 use lib.Dec.{ltb}
 use lib.ListN.{length, getD}
 use lib.Ieee.{Float, nan}
 use borrow.Author.Tests.{lt-ltb}
-use Rattle.tensor_laws.specs.Layout.{slot, batchAt, headAt, positionAt}
-use Rattle.tensor_laws.proofs.Slots.{slot-at, batch-lt, head-lt, position-lt, right-factor-pos, left-factor-pos}
+use Rattle.tensor_laws.specs.Layout.{slot, batchAt, positionAt}
+use Rattle.tensor_laws.proofs.Slots.{position-lt, right-factor-pos}
 use Rattle.tensor_laws.proofs.Rows.{index-lt}
+use Rattle.tensor_laws.proofs.Cells.{by-cells}
 use Rattle.call.specs.declared.Call.{Call}
 use Rattle.call.specs.Limits.{totalOf}
 use Rattle.call.specs.Contents.{nothing, elementFault, tensorFault, incomingFault, lookedAt, liveOf}
 use Rattle.call.proofs.Search.{nothing→clear, clear→nothing}
 use Rattle.attention.specs.Elements.{cellAt}
-
--- a statement on the index of every cell holds of every index below the tensor's length
-pub by-cells : (rank batches heads len size : ℕ) (P : ℕ → Type 0)
-    → ((b h s k : ℕ) → b < batches → h < heads → s < len → k < size → P (slot rank heads len b h s * size + k))
-    → (i : ℕ) → i < batches * heads * len * size → P i
-by-cells rank batches heads len size P p i l =
-    let rows : ℕ = batches * heads * len in
-    let n : ℕ = i / size in
-    let sp : 0 < size = right-factor-pos rows size i l in
-    let m : n < rows = div-lt-iff-lt-mul sp .1 l in
-    let lp : 0 < len = right-factor-pos (batches * heads) len n m in
-    let hp : 0 < heads = right-factor-pos batches heads 0 (left-factor-pos (batches * heads) len n m) in
-    subst P (ap (λ (j : ℕ). j * size + i % size) (slot-at rank heads len n hp lp) ∙ div-add-mod' i size)
-    (p (batchAt heads len n) (headAt rank heads len n) (positionAt rank heads len n) (i % size)
-    (batch-lt batches heads len n m) (head-lt rank heads len n hp) (position-lt rank heads len n lp) (mod-lt i sp))
 
 -- no cell is at fault
 abbrev pub GoodCells : (batches heads len size : ℕ) → (ℕ → ℕ → ℕ → ℕ → Float) → Type 0

@@ -2,15 +2,13 @@
 use mathlib.Core.Path.{_≡_, refl, sym, ap, _∙_}
 use mathlib.Core.List.{List, _++_}
 use mathlib.Core.Bool.{Bool, true, false, _&&_}
-use Prim.Native.Nat.{ℕ, zero, suc, _+_, _*_, _/_, _%_, _≤_, _<_, zero-le}
-use native.Mathlib.Nat.{div-lt-iff-lt-mul, div-add-mod', mul-comm}
+use Prim.Native.Nat.{ℕ, zero, suc, _+_, _*_, _≤_, _<_, zero-le}
 use native.Mathlib.Omega.{arith}
 use lib.Dec.{ltb}
 use lib.Ieee.{Float}
 use lib.ListN.{length}
-use borrow.Author.Tests.{lt-ltb, le-leb, lt-leb, eqb-true}
+use borrow.Author.Tests.{lt-ltb, le-leb, lt-leb}
 use Rattle.tensor_laws.specs.Layout.{tensorOf, batchAt, headAt, positionAt}
-use Rattle.tensor_laws.proofs.Slots.{left-factor-pos}
 use Rattle.tensor_laws.proofs.Rows.{tensorOf-ext}
 use Rattle.softmax.specs.Row.{scoreOf, rowOutputOf}
 use Rattle.softmax.proofs.Structure.{cut-output, agree-output, agree-score, seen-not-masked}
@@ -18,7 +16,6 @@ use Rattle.call.specs.declared.Call.{Call}
 use Rattle.call.specs.declared.Form.{Form}
 use Rattle.call.specs.declared.Form.the-variants.{Plain, Cached}
 use Rattle.call.specs.Tensors.{Inputs}
-use Rattle.call.specs.Limits.{groupsHold}
 use Rattle.call.specs.Contents.{liveIn}
 use Rattle.attention.specs.Elements.{keyHeadOf, queryAt, keyAt, valueAt}
 use Rattle.attention.specs.Admission.{admits}
@@ -27,6 +24,7 @@ use Rattle.attention.specs.Outcomes.{tally, countWhere, maskedRowsOf, presentKe
 use Rattle.sequence.specs.Positions.{Position, positionOf, causalCall, plainCall, plainInputs, keyCache, valueCache}
 use Rattle.sequence.specs.Chunks.{Chunk, lengthOf, chunkCall, chunkInputs, positionsOf}
 use Rattle.sequence.proofs.Places.{stateOf, length-joined}
+use Rattle.attention.proofs.Facts.{grouped-head-lt}
 use Rattle.sequence.proofs.Plain.{both, PlainGood}
 use Rattle.sequence.proofs.Lays.{Lays, plain-lays, chunk-lays}
 
@@ -37,19 +35,6 @@ rowOver s ps b h m k =
     rowOutputOf (suc m) (λ j. true)
     (λ j. scoreOf (s .size) (λ c. positionOf ps m .query b h c) (λ c. positionOf ps j .key b (keyHeadOf s h) c) (effectiveScale s))
     (λ j. positionOf ps j .value b (keyHeadOf s h) k)
-
--- ---- the key head of a query head
-
--- the key head of a query head is one of them where the heads are grouped
-pub key-head-lt : (s : Call) (ps : List Position) → PlainGood s ps → (h : ℕ) → h < s .qheads → keyHeadOf s h < s .kvheads
-unfolding groupsHold
-key-head-lt s ps p h l =
-    let e : s .qheads % s .kvheads ≡ 0 = eqb-true (s .qheads % s .kvheads) 0 (p .groups) in
-    let d = div-add-mod' (s .qheads) (s .kvheads) in
-    let w : s .qheads / s .kvheads * s .kvheads ≡ s .qheads = omega arith in
-    let m : h < s .qheads / s .kvheads * s .kvheads = omega arith in
-    let z : 0 < s .qheads / s .kvheads = left-factor-pos (s .qheads / s .kvheads) (s .kvheads) h m in
-    div-lt-iff-lt-mul z .1 (rw (mul-comm (s .qheads / s .kvheads) (s .kvheads)) at m)
 
 -- ---- what a row sees
 
@@ -135,7 +120,7 @@ module _ (s : Call) (book : List Position) (r : Chunk) where
       → attentionOutput (chunkCall s (length book) r) (chunkInputs (stateOf s book) r) b h i k
       ≡ attentionOutput (plainCall s ps) (plainInputs s ps) b h (length book + i) k
   chunk-row p ps long same b h i k hb hh hi hk =
-      let hg = key-head-lt s (book ++ positionsOf s r) p h hh in
+      let hg = grouped-head-lt (plainCall s (book ++ positionsOf s r)) (p .groups) h hh in
       row-output s Cached (length book) (lengthOf r) (chunkInputs (stateOf s book) r) (λ total b. refl) ps (chunk-lays s book r ps same) b h i k hb hh hi hk hg
       ∙ ap (λ m. rowOver s ps b h m k) (omega arith)
       ∙ sym (row-output s Plain 0 (length ps) (plainInputs s ps) (λ total b. refl) ps (plain-lays s ps) b h (length book + i) k hb hh (omega arith) hk hg)

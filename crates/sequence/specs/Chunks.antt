@@ -1,13 +1,13 @@
 -- Chunks (runs) of a recording: causal cached calls without a mask, each on the caches that the last accepted one left; and the history (the book) of the positions that were entered. Definitions only.
 use mathlib.Core.List.{List, [], _∷_, _++_}
-use Prim.Native.Nat.{ℕ, suc, _+_}
+use Prim.Native.Nat.{ℕ, suc}
 use mathlib.Core.Bool.{Bool, true, false, _&&_}
 use lib.IntN.{ℤ}
 use lib.Ieee.{Float}
 use lib.ListN.{length}
 use Rattle.tensor_laws.specs.Layout.{tabulate}
 use Rattle.call.specs.declared.Call.{Call}
-use Rattle.call.specs.declared.Form.the-variants.{Plain, Cached}
+use Rattle.call.specs.declared.Form.the-variants.{Cached}
 use Rattle.call.specs.declared.Answer.{Answer}
 use Rattle.call.specs.declared.Answer.the-variants.{Done, Limits, HeadGroups, Settings, MaskShape, InputLength, OutputLength, LiveCount, MaskCell, Element}
 use Rattle.call.specs.declared.Verdict.{Verdict}

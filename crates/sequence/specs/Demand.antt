@@ -9,7 +9,6 @@ use Rattle.call.specs.declared.Answer.{Answer}
 use Rattle.call.specs.declared.Answer.the-variants.{Done, Limits, HeadGroups, Settings, MaskShape, InputLength, OutputLength, LiveCount, MaskCell, Element}
 use Rattle.attention.specs.Elements.{cellAt}
 use Rattle.attention.specs.Formula.{attentionOutput}
-use Rattle.attention.specs.Outcomes.{Outcome}
 use Rattle.sequence.specs.Positions.{Position, plainCall, plainInputs, keyCache, valueCache}
 use Rattle.sequence.specs.Chunks.{Chunk, State, start, lengthOf, chunkOutcome, stateAfter, entered, historyNext, historyAfter}
 

@@ -7,7 +7,7 @@ use Rattle.tensor_laws.specs.Layout.{tensorOf}
 use Rattle.exponential.specs.ExpNeg.{plusZero}
 use Rattle.call.specs.declared.Call.{Call}
 use Rattle.call.specs.declared.Form.{Form}
-use Rattle.call.specs.declared.Form.the-variants.{Plain, Cached}
+use Rattle.call.specs.declared.Form.the-variants.{Plain}
 use Rattle.call.specs.declared.MaskKind.the-variants.{NoMask}
 use Rattle.call.specs.Limits.{totalOf}
 use Rattle.call.specs.Tensors.{Inputs, Outputs}

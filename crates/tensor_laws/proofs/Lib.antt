@@ -3,3 +3,4 @@ pub mod Tabulate
 pub mod Splice
 pub mod Rows
 pub mod InPlace
+pub mod Cells
