@@ -15,7 +15,7 @@ use lib.Ieee.Bits.{is-true}
 use Rattle.float_laws.proofs.Order.{lt→le, le-trans}
 use Rattle.tensor_laws.specs.Layout.{slot, batchAt, positionAt}
 use Rattle.tensor_laws.proofs.Slots.{batch-slot, position-slot, left-factor-pos}
-use Rattle.tensor_laws.proofs.Rows.{index-lt}
+use Rattle.tensor_laws.proofs.Cells.{index-lt}
 use Rattle.exponential.specs.declared.DefaultScale.{DefaultScale}
 use Rattle.exponential.specs.ExpNeg.{plusZero, one, pickFloat}
 use Rattle.exponential.specs.Scale.{defaultScaleOf}

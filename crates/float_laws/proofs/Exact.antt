@@ -88,18 +88,6 @@ dyadic f s m (negsuc k) t h =
     let d = fits-digits f s m (negsuc k) t in
     record { q = m; w = suc k; small = d .0; fine = exponent-le (suc k) (low f) (d .1); value = (refl, ap (λ (z : ℕ). z * 2 ^ suc k) (mul-one m)) }
 
--- ---- the same size by another fraction
-pub rescaled : (x : Float) (s : Bool) (a c b d : ℕ) → 0 < c → a * d ≡ b * c → HasValue x s a c → HasValue x s b d
-rescaled (fin t m e) s a c b d C h v = (
-  v .0,
-  eq-of-mul-eq-mul-right c C (m * up e * d) (b * down e)
-      (mul-right-comm (m * up e) d c
-      ∙ ap (λ (z : ℕ). z * d) (v .1)
-      ∙ mul-right-comm a (down e) d
-      ∙ ap (λ (z : ℕ). z * down e) h
-      ∙ mul-right-comm b c (down e)),
-)
-
 -- ---- rounding a fraction that a value of the format equals gives that value
 
 -- up e * 2 ^ low is 2 ^ j * down e

@@ -12,8 +12,7 @@ use lib.Ieee.{Float, nan}
 use borrow.Author.Tests.{lt-ltb}
 use Rattle.tensor_laws.specs.Layout.{slot, batchAt, positionAt}
 use Rattle.tensor_laws.proofs.Slots.{position-lt, right-factor-pos}
-use Rattle.tensor_laws.proofs.Rows.{index-lt}
-use Rattle.tensor_laws.proofs.Cells.{by-cells}
+use Rattle.tensor_laws.proofs.Cells.{index-lt, by-cells}
 use Rattle.call.specs.declared.Call.{Call}
 use Rattle.call.specs.Limits.{totalOf}
 use Rattle.call.specs.Contents.{nothing, elementFault, tensorFault, incomingFault, lookedAt, liveOf}

@@ -9,7 +9,7 @@ use lib.Ieee.{Float}
 use lib.ListN.{length}
 use borrow.Author.Tests.{lt-ltb, le-leb, lt-leb}
 use Rattle.tensor_laws.specs.Layout.{tensorOf, batchAt, headAt, positionAt}
-use Rattle.tensor_laws.proofs.Rows.{tensorOf-ext}
+use Rattle.tensor_laws.proofs.Cells.{tensorOf-ext}
 use Rattle.softmax.specs.Row.{scoreOf, rowOutputOf}
 use Rattle.softmax.proofs.Structure.{cut-output, agree-output, agree-score, seen-not-masked}
 use Rattle.call.specs.declared.Call.{Call}

@@ -8,7 +8,7 @@ use lib.Dec.{leb, eqb}
 use lib.Ieee.{nan}
 use lib.ListN.{length, replicate, length-replicate}
 use borrow.Author.Tests.{leb-true, le-leb, eq-eqb}
-use Rattle.tensor_laws.proofs.Rows.{length-tensorOf, getD-tensorOf}
+use Rattle.tensor_laws.proofs.Cells.{length-tensorOf, getD-tensorOf}
 use Rattle.exponential.specs.ExpNeg.{plusZero}
 use Rattle.call.specs.declared.Call.{Call}
 use Rattle.call.specs.declared.Form.{Form}

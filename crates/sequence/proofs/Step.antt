@@ -8,7 +8,7 @@ use lib.Dec.{eqb}
 use lib.Ieee.{nan}
 use lib.ListN.{length}
 use borrow.Author.Tests.{eqb-true}
-use Rattle.tensor_laws.proofs.Rows.{length-tensorOf, getD-tensorOf}
+use Rattle.tensor_laws.proofs.Cells.{length-tensorOf, getD-tensorOf}
 use Rattle.call.specs.declared.Call.{Call}
 use Rattle.call.specs.declared.Form.the-variants.{Cached}
 use Rattle.call.specs.declared.Verdict.{Verdict}

@@ -6,7 +6,7 @@ use Prim.Native.Nat.{ℕ, _+_, _≤_, _<_}
 use native.Mathlib.Omega.{arith}
 use lib.Ieee.{nan}
 use lib.ListN.{length, length-append}
-use Rattle.tensor_laws.proofs.Rows.{getD-tensorOf}
+use Rattle.tensor_laws.proofs.Cells.{getD-tensorOf}
 use Rattle.call.specs.declared.Call.{Call}
 use Rattle.call.specs.declared.Answer.the-variants.{Done}
 use Rattle.attention.specs.Elements.{cellAt}

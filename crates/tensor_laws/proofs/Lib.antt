@@ -1,6 +1,4 @@
 pub mod Slots
 pub mod Tabulate
-pub mod Splice
-pub mod Rows
-pub mod InPlace
 pub mod Cells
+pub mod InPlace

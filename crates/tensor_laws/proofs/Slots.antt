@@ -1,8 +1,8 @@
--- Batch, head and position of a row, and the row's number: each gives the other, and the number is below batches * heads * len. The bounds of factors and rows that follow. Assumes nothing.
-use mathlib.Core.Path.{_≡_, sym, ap, _∙_}
+-- Batch, head and position of a row, and the row's number: each gives the other, and the number is below batches * heads * len. A product with something below it has factors above 0. Assumes nothing.
+use mathlib.Core.Path.{_≡_}
 use mathlib.Core.Bool.{Bool, true, false, cond}
-use Prim.Native.Nat.{ℕ, zero, suc, _+_, _*_, _/_, _%_, _≤_, _<_}
-use native.Mathlib.Nat.{suc-mul, mul-le-mul-right, mul-comm, mul-zero, mul-assoc, mul-right-comm, div-div-eq-div-mul, div-add-mod', mod-lt, div-lt-iff-lt-mul, zero-lt-suc}
+use Prim.Native.Nat.{ℕ, zero, suc, _+_, _*_, _/_, _%_, _<_}
+use native.Mathlib.Nat.{mul-comm, mul-zero, mul-assoc, mul-right-comm, div-div-eq-div-mul, div-add-mod', mod-lt, div-lt-iff-lt-mul, zero-lt-suc}
 use native.Mathlib.Omega.{arith}
 use lib.Arith.{digits-lt, digits-div, digits-mod}
 use lib.Dec.{eqb}
@@ -61,18 +61,9 @@ head-slot rank = head-slot-by (eqb rank 4)
 pub position-slot : (rank heads len b h s : ℕ) → h < heads → s < len → positionAt rank heads len (slot rank heads len b h s) ≡ s
 position-slot rank = position-slot-by (eqb rank 4)
 
-pub slot-injective : (rank heads len b h s b' h' s' : ℕ) → h < heads → s < len → h' < heads → s' < len
-    → slot rank heads len b h s ≡ slot rank heads len b' h' s' → (b ≡ b') × (h ≡ h') × (s ≡ s')
-slot-injective rank heads len b h s b' h' s' hh hs hh' hs' e = (
-  sym (batch-slot rank heads len b h s hh hs) ∙ ap (batchAt heads len) e ∙ batch-slot rank heads len b' h' s' hh' hs',
-  sym (head-slot rank heads len b h s hh hs) ∙ ap (headAt rank heads len) e ∙ head-slot rank heads len b' h' s' hh' hs',
-  sym (position-slot rank heads len b h s hh hs) ∙ ap (positionAt rank heads len) e ∙ position-slot rank heads len b' h' s' hh' hs',
-)
-
 -- ---- the batch, head and position of a row, from its number
-pub slot-at : (rank heads len n : ℕ) → 0 < heads → 0 < len
-    → slot rank heads len (batchAt heads len n) (headAt rank heads len n) (positionAt rank heads len n) ≡ n
-slot-at rank heads len n hh hs = slot-at-by (eqb rank 4) heads len n
+pub slot-at : (rank heads len n : ℕ) → slot rank heads len (batchAt heads len n) (headAt rank heads len n) (positionAt rank heads len n) ≡ n
+slot-at rank = slot-at-by (eqb rank 4)
 
 -- a product with something below it has positive factors
 pub right-factor-pos : (a b n : ℕ) → n < a * b → 0 < b
@@ -92,7 +83,3 @@ head-lt rank = head-lt-by (eqb rank 4)
 
 pub position-lt : (rank heads len n : ℕ) → 0 < len → positionAt rank heads len n < len
 position-lt rank = position-lt-by (eqb rank 4)
-
--- row n ends within a list of more rows
-pub row-end-le : (size n rows : ℕ) → n < rows → n * size + size ≤ rows * size
-row-end-le size n rows h = omega (arith, mul-le-mul-right size h, suc-mul n size)

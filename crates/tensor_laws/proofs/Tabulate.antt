@@ -1,9 +1,9 @@
--- The list f 0, f 1, .. f (n - 1): its length, its elements, its parts, and when two such lists are equal. Assumes nothing.
+-- The list f 0, f 1, .. f (n - 1): its length, its elements, and when two such lists are equal. Assumes nothing.
 use mathlib.Core.Path.{_≡_, refl, ap}
-use mathlib.Core.List.{List, [], _∷_, _++_, map}
-use Prim.Native.Nat.{ℕ, zero, suc, _+_, _*_, _≤_, _<_, suc-le-suc}
-use native.Mathlib.Nat.{zero-add, suc-add, not-suc-le-zero, le-of-suc-le-suc, zero-lt-suc}
-use lib.ListN.{length, getD, take, drop}
+use mathlib.Core.List.{List, [], _∷_}
+use Prim.Native.Nat.{ℕ, zero, suc, _*_, _<_, suc-le-suc}
+use native.Mathlib.Nat.{not-suc-le-zero, le-of-suc-le-suc, zero-lt-suc}
+use lib.ListN.{length, getD}
 use Rattle.tensor_laws.specs.Layout.{tabulate}
 
 module _ {A : Type 0} where
@@ -28,28 +28,6 @@ module _ {A : Type 0} where
   unfolding tabulate
   tabulate-getD [] d = refl
   tabulate-getD (x ∷ xs) d = ap (λ (r : List A). x ∷ r) (tabulate-getD xs d)
-
-  pub take-tabulate : (m n : ℕ) (f : ℕ → A) → m ≤ n → take m (tabulate n f) ≡ tabulate m f
-  unfolding tabulate
-  take-tabulate zero n f h = refl
-  take-tabulate (suc m) zero f h = absurd (not-suc-le-zero h)
-  take-tabulate (suc m) (suc n) f h = ap (λ (r : List A). f 0 ∷ r) (take-tabulate m n (λ k. f (suc k)) (le-of-suc-le-suc h))
-
-  pub drop-tabulate : (m n : ℕ) (f : ℕ → A) → drop m (tabulate (m + n) f) ≡ tabulate n (λ k. f (m + k))
-  unfolding tabulate
-  drop-tabulate zero n f = simp zero-add
-  drop-tabulate (suc m) n f = simp suc-add (drop-tabulate m n (λ k. f (suc k)))
-
-  -- one more element, at the end
-  pub tabulate-suc : (n : ℕ) (f : ℕ → A) → tabulate (suc n) f ≡ tabulate n f ++ (f n ∷ [])
-  unfolding tabulate
-  tabulate-suc zero f = refl
-  tabulate-suc (suc n) f = ap (λ (r : List A). f 0 ∷ r) (tabulate-suc n (λ k. f (suc k)))
-
-pub map-tabulate : {A B : Type 0} (g : A → B) (n : ℕ) (f : ℕ → A) → map g (tabulate n f) ≡ tabulate n (λ k. g (f k))
-unfolding tabulate
-map-tabulate g zero f = refl
-map-tabulate {B = B} g (suc n) f = ap (λ (r : List B). g (f 0) ∷ r) (map-tabulate g n (λ k. f (suc k)))
 
 squares : tabulate 3 (λ (k : ℕ). k * k) ≡ 0 ∷ 1 ∷ 4 ∷ []
 unfolding tabulate

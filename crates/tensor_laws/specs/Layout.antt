@@ -1,10 +1,9 @@
--- Where a row stands in a flat list that holds a tensor of rank 4 or 3, the tensor with given cells, and the rows of a list.
+-- Where a row stands in a flat list that holds a tensor of rank 4 or 3, and the tensor with given cells.
 -- A row is the elements of one batch, head and position. At rank 4 the heads of a batch stand before its positions, and at rank 3 the positions before the heads. Definitions only.
 use mathlib.Core.Bool.{cond}
-use mathlib.Core.List.{List, [], _∷_, _++_}
+use mathlib.Core.List.{List, [], _∷_}
 use Prim.Native.Nat.{ℕ, zero, suc, _+_, _*_, _/_, _%_}
 use lib.Dec.{eqb}
-use lib.ListN.{length, take, drop}
 
 -- the number of the row of batch b, head h, position s
 abbrev pub slot : ℕ → ℕ → ℕ → ℕ → ℕ → ℕ → ℕ
@@ -30,11 +29,3 @@ unfoldable pub tensorOf : {A : Type 0} → (rank batches heads len size : ℕ) �
 tensorOf rank batches heads len size cell =
     tabulate (batches * heads * len * size)
     (λ i. let n = i / size in cell (batchAt heads len n) (headAt rank heads len n) (positionAt rank heads len n) (i % size))
-
--- row n of a tensor whose rows have that size
-abbrev pub row : {A : Type 0} → ℕ → ℕ → List A → List A
-row size n t = take size (drop (n * size) t)
-
--- t with r written at a
-abbrev pub splice : {A : Type 0} → List A → ℕ → List A → List A
-splice t a r = take a t ++ (r ++ drop (a + length r) t)
