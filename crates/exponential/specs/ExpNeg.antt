@@ -7,10 +7,7 @@ use lib.Ieee.{Float, nan, inf, fin, binary32, up, down, minus, sub, mul, div, le
 use Rattle.exponential.specs.declared.Exponential.{Exponential}
 use Rattle.exponential.specs.declared.Exponential.the-variants.{Value, NoValue}
 use Rattle.exponential.specs.Power.{powerOf}
-
--- +0
-abbrev pub plusZero : Float
-plusZero = fin false 0 (pos 0)
+pub use Rattle.float_laws.specs.Zero.{plusZero}
 
 abbrev pub one : Float
 one = fin false 1 (pos 0)

@@ -12,9 +12,7 @@ use lib.Ieee.{Float, nan, inf, fin, up, down, neg, lt, le}
 use lib.Ieee.Fits.{and-l, and-r, and-i, eq→eqb}
 use lib.Ieee.Positive.{den}
 use lib.Ieee.Scale.{finite}
-
-abbrev pub plusZero : Float
-plusZero = fin false 0 (pos 0)
+pub use Rattle.float_laws.specs.Zero.{plusZero}
 
 abbrev pub gain : Float → ℕ
 gain nan = 0
