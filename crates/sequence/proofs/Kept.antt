@@ -1,14 +1,16 @@
--- What every chunk keeps: the state is the caches of the history, and no position of the history is at fault. A history is only ever added to. Assumes nothing.
+-- What every chunk keeps: the state is the caches of the history, no position of the history is at fault, and the plain call over a history of one position at least is accepted. A history is only ever added to. Assumes nothing.
 use mathlib.Core.Path.{_≡_, refl, sym, ap, _∙_, subst}
 use mathlib.Core.List.{List, [], _∷_, _++_, append-assoc, append-nil}
 use mathlib.Core.Bool.{Bool, true, false}
-use Prim.Native.Nat.{ℕ, _*_}
+use Prim.Native.Nat.{ℕ, _*_, _≤_}
+use lib.ListN.{length}
 use native.Mathlib.Nat.{mul-zero, zero-mul, not-suc-le-zero}
 use Rattle.call.specs.declared.Call.{Call}
 use Rattle.attention.specs.Outcomes.{acceptedOf}
 use Rattle.sequence.specs.Positions.{Position, keyCache, valueCache}
 use Rattle.sequence.specs.Chunks.{Chunk, State, start, chunkOutcome, nextState, stateAfter, positionsOf, entered, joined, historyNext, historyAfter}
 use Rattle.sequence.proofs.Places.{stateOf, AllGood, length-joined}
+use Rattle.sequence.proofs.Plain.{PlainGood}
 use Rattle.sequence.proofs.Refusing.{state-stays}
 use Rattle.sequence.proofs.Step.{empty, key-cache-length, value-cache-length, entered→plain, entered-outcome, other-outcome}
 use Rattle.sequence.proofs.Outputs.{chunk-present-keys, chunk-present-values}
@@ -16,6 +18,7 @@ use Rattle.sequence.proofs.Outputs.{chunk-present-keys, chunk-present-v
 pub record Kept (s : Call) (st : State) (book : List Position) : Type 0 where
   pub state : st ≡ stateOf s book
   pub good : AllGood s book
+  pub plain : 1 ≤ length book → PlainGood s book
 
 -- ---- one chunk
 
@@ -53,19 +56,19 @@ module _ (s : Call) (book : List Position) (r : Chunk) where
   unfolding chunkOutcome
   state-other good e = state-stays (chunkOutcome s (stateOf s book) r .answer) (stateOf s book) (chunkOutcome s (stateOf s book) r .tensors) (other-outcome s book r good e .0)
 
-  kept-by-chunk : AllGood s book → Kept s (next s (stateOf s book) r) (historyNext s (stateOf s book) book r)
-  kept-by-chunk good = go (entered s (stateOf s book) book r) refl
+  kept-by-chunk : AllGood s book → (1 ≤ length book → PlainGood s book) → Kept s (next s (stateOf s book) r) (historyNext s (stateOf s book) book r)
+  kept-by-chunk good plain = go (entered s (stateOf s book) book r) refl
     where
       go : (t : Bool) → entered s (stateOf s book) book r ≡ t → Kept s (next s (stateOf s book) r) (historyNext s (stateOf s book) book r)
       go true e =
           subst (λ h. Kept s (next s (stateOf s book) r) h) (sym (history-entered s (stateOf s book) book r e))
-          (record { state = state-entered e; good = entered→plain s book r e .good })
+          (record { state = state-entered e; good = entered→plain s book r e .good; plain = λ some. entered→plain s book r e })
       go false e =
           subst (λ h. Kept s (next s (stateOf s book) r) h) (sym (history-other s (stateOf s book) book r e))
-          (record { state = state-other good e; good = good })
+          (record { state = state-other good e; good = good; plain = plain })
 
 kept-next : (s : Call) (st : State) (book : List Position) (r : Chunk) → Kept s st book → Kept s (next s st r) (historyNext s st book r)
-kept-next s st book r k = subst (λ st. Kept s (next s st r) (historyNext s st book r)) (sym (k .state)) (kept-by-chunk s book r (k .good))
+kept-next s st book r k = subst (λ st. Kept s (next s st r) (historyNext s st book r)) (sym (k .state)) (kept-by-chunk s book r (k .good) (k .plain))
 
 -- ---- a sequence of chunks
 
@@ -78,6 +81,7 @@ kept-start s = record {
     value = sym (empty (valueCache s []) (value-cache-length s [] ∙ none (s .vsize))) i;
   };
   good = λ i h. absurd (not-suc-le-zero h);
+  plain = λ some. absurd (not-suc-le-zero some);
 }
   where
     none : (size : ℕ) → s .batches * s .kvheads * 0 * size ≡ 0

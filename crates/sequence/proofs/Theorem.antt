@@ -15,6 +15,7 @@ use Rattle.attention.specs.Outcomes.{acceptedOf, outputTensor}
 use Rattle.sequence.specs.Positions.{Position, positionOf, plainCall, plainInputs}
 use Rattle.sequence.specs.Chunks.{Chunk, State, start, lengthOf, chunkCall, chunkInputs, chunkOutcome, stateAfter, positionsOf, entered, historyNext, historyAfter}
 use Rattle.sequence.specs.Demand.{isDone, ChunkHolds, Demand3}
+use Rattle.sequence.proofs.Plain.{good→plain}
 use Rattle.sequence.proofs.Places.{stateOf, AllGood, length-joined, position-old}
 use Rattle.sequence.proofs.Step.{entered→plain, entered-outcome, other-outcome}
 use Rattle.sequence.proofs.Outputs.{chunk-none-masked, chunk-row}
@@ -81,6 +82,7 @@ demand3 s runs =
           let later = history-extends s (next s st r) (historyNext s st book r) after in
           kept-holds s st book r (historyAfter s start [] runs) (later .0) (kept-after s start [] before (kept-start s))
           (ap (historyAfter s start []) e ∙ history-append s start [] before (r ∷ after) ∙ later .1);
+      plain = λ some. good→plain s (historyAfter s start [] runs) (k .plain some);
       total = ap (λ st. st .past) (k .state);
       keys = ap (λ st. st .key) (k .state);
       values = ap (λ st. st .value) (k .state);

@@ -1,7 +1,7 @@
 -- Demand 3, as one statement over every sequence of chunks. Definitions only.
 use mathlib.Core.Path.{_≡_}
 use mathlib.Core.List.{List, [], _∷_, _++_}
-use Prim.Native.Nat.{ℕ, _+_, _<_}
+use Prim.Native.Nat.{ℕ, _+_, _≤_, _<_}
 use mathlib.Core.Bool.{Bool, true, false}
 use lib.ListN.{length}
 use Rattle.call.specs.declared.Call.{Call}
@@ -10,7 +10,7 @@ use Rattle.call.specs.declared.Answer.the-variants.{Done, Limits, HeadGroups, S
 use Rattle.attention.specs.Elements.{cellAt}
 use Rattle.attention.specs.Formula.{attentionOutput}
 use Rattle.sequence.specs.Positions.{Position, plainCall, plainInputs, keyCache, valueCache}
-use Rattle.sequence.specs.Chunks.{Chunk, State, start, lengthOf, chunkOutcome, stateAfter, entered, historyNext, historyAfter}
+use Rattle.sequence.specs.Chunks.{Chunk, State, start, lengthOf, chunkOutcome, stateAfter, plainAccepted, entered, historyNext, historyAfter}
 
 -- the call was accepted
 abbrev pub isDone : Answer → Bool
@@ -43,6 +43,8 @@ pub record Demand3 (s : Call) (runs : List Chunk) : Type 0 where
   -- each chunk, with what stands before it and after it
   pub each : (before : List Chunk) (r : Chunk) (after : List Chunk) → runs ≡ before ++ (r ∷ after)
       → ChunkHolds s (stateAfter s start before) (historyAfter s start [] before) r (historyAfter s start [] runs)
+  -- no refusal applies to the plain call over the whole history, where that has a position
+  pub plain : 1 ≤ length (historyAfter s start [] runs) → plainAccepted s (historyAfter s start [] runs) ≡ true
   -- the last T is the history's length
   pub total : stateAfter s start runs .past ≡ length (historyAfter s start [] runs)
   -- the presents of the last accepted chunk hold the history's key rows and value rows in cache order
