@@ -1,4 +1,6 @@
 pub mod Starred
+pub mod Layouts
+pub mod Refused
 pub mod Facts
 pub mod Bounded
 pub mod Weights

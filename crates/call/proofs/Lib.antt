@@ -2,3 +2,4 @@ pub mod Search
 pub mod Accepted
 pub mod Facts
 pub mod Edges
+pub mod Lowest

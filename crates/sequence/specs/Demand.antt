@@ -3,27 +3,20 @@ use mathlib.Core.Path.{_≡_}
 use mathlib.Core.List.{List, [], _∷_, _++_}
 use Prim.Native.Nat.{ℕ, _+_, _≤_, _<_}
 use mathlib.Core.Bool.{Bool, true, false}
+use lib.Dec.{eqb}
 use lib.ListN.{length}
 use Rattle.call.specs.declared.Call.{Call}
 use Rattle.call.specs.declared.Answer.{Answer}
-use Rattle.call.specs.declared.Answer.the-variants.{Done, Limits, HeadGroups, Settings, MaskShape, InputLength, OutputLength, LiveCount, MaskCell, Element}
+use Rattle.call.specs.declared.Answer.the-variants.{Done}
+use Rattle.call.specs.Answers.{reportOf}
 use Rattle.attention.specs.Elements.{cellAt}
 use Rattle.attention.specs.Formula.{attentionOutput}
 use Rattle.sequence.specs.Positions.{Position, plainCall, plainInputs, keyCache, valueCache}
 use Rattle.sequence.specs.Chunks.{Chunk, State, start, lengthOf, chunkOutcome, stateAfter, plainAccepted, entered, historyNext, historyAfter}
 
--- the call was accepted
+-- the call was accepted: the answer has the number 0
 abbrev pub isDone : Answer → Bool
-isDone (Done total masked) = true
-isDone Limits = false
-isDone HeadGroups = false
-isDone Settings = false
-isDone MaskShape = false
-isDone InputLength = false
-isDone OutputLength = false
-isDone (LiveCount i) = false
-isDone (MaskCell i) = false
-isDone (Element t i) = false
+isDone a = eqb (reportOf a .number) 0
 
 -- What holds of one chunk of a sequence, with the state and the history before it, and the whole history after the sequence.
 pub record ChunkHolds (s : Call) (st : State) (book : List Position) (r : Chunk) (whole : List Position) : Type 0 where
