@@ -4,3 +4,4 @@ pub mod Refused
 pub mod Facts
 pub mod Bounded
 pub mod Weights
+pub mod Lengths

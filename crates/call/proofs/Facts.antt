@@ -8,8 +8,6 @@ use lib.ListN.{length}
 use lib.Ieee.Fits.{and-l, and-r}
 use lib.Ieee.Bits.{is-true}
 use Rattle.call.specs.declared.Call.{Call}
-use Rattle.call.specs.declared.Form.{Form}
-use Rattle.call.specs.declared.Form.the-variants.{Plain, Counted}
 use Rattle.call.specs.declared.MaskKind.{MaskKind}
 use Rattle.call.specs.declared.MaskKind.the-variants.{Boolean, Float as FloatMask}
 use Rattle.call.specs.Tensors.{Inputs, Outputs}
@@ -99,11 +97,6 @@ limits→facts c e =
 -- the past is one that the form allows
 pub past-allowed : (c : Call) → limitsHold c ≡ true → T (pastAllowed (c .form) (c .past))
 past-allowed c e = limits-parts c e .1
-
--- outside the cached form the past is 0
-pub past-plain : (c : Call) → limitsHold c ≡ true → (c .form ≡ Plain) ⊎ (c .form ≡ Counted) → c .past ≡ 0
-past-plain c e (inl f) = eqb→eq (c .past) 0 (subst (λ (g : Form). T (pastAllowed g (c .past))) f (past-allowed c e))
-past-plain c e (inr f) = eqb→eq (c .past) 0 (subst (λ (g : Form). T (pastAllowed g (c .past))) f (past-allowed c e))
 
 -- ---- 2: head groups
 
