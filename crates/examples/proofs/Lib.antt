@@ -1,2 +1,3 @@
 pub mod SecondChunk
 pub mod EmptyPrograms
+pub mod Vectors
