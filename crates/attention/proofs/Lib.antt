@@ -1,4 +1,5 @@
 pub mod Starred
+pub mod LayoutCalls
 pub mod Layouts
 pub mod Refused
 pub mod Facts
