@@ -1,5 +1,5 @@
 -- The whole part n of 256 * y, for y from 0 (-0 too) to below 120: it is the largest whole number not above 256 * y, it is below 30,720, and 256 * y is exact, so cutting that product gives n.
--- The rest r = y - n / 256 is exact, and below 1 / 256. Assumes nothing.
+-- Assumes nothing.
 use mathlib.Core.Path.{_≡_, refl, sym, ap, _∙_, subst}
 use mathlib.Core.Logic.{_⊎_, inl, inr}
 use Prim.Native.Nat.{ℕ, suc, _+_, _*_, _/_, _^_, _≤_, _<_, min}

@@ -19,15 +19,12 @@ use borrow.Author.Needs.{needs}
 use Rattle.exponential.proofs.below_limit.Statement.{statement}
 use Rattle.exponential.proofs.below_limit.Tie as tie
 
--- src/lib.rt:58:9
 whole-part-requires : tie.Need-whole-part-requires
 whole-part-requires c κs = search needs
 
--- src/lib.rt:59:13
 cast-f : tie.Need-cast-f
 cast-f c = search needs
 
--- src/lib.rt:60:20
 -- n is the whole part, and below 30,720
 whole : (c : tie.After-whole-part) → (c .whole-part .result ≡ wholePartOf (c .before .args .y)) × (c .whole-part .result < 30720)
 whole c =
@@ -38,41 +35,32 @@ int-to-float-rest : tie.Need-int-to-float-rest
 unfolding inFloat
 int-to-float-rest c = let n = whole (c .before) in le→leb (c .before .whole-part .result) (2 ^ 24) (omega arith)
 
--- src/lib.rt:61:27
 float-from-bits-p : tie.Need-float-from-bits-p
 unfolding nanBits
 float-from-bits-p c = tt
 
--- src/lib.rt:61:55
 float-from-bits-p-2 : tie.Need-float-from-bits-p-2
 unfolding nanBits
 float-from-bits-p-2 c = tt
 
--- src/lib.rt:62:34
 sub-halved : tie.Need-sub-halved
 sub-halved c = let n = whole (c .before) in omega arith
 
--- src/lib.rt:62:33
 mul-halved : tie.Need-mul-halved
 mul-halved c = search needs
 
--- src/lib.rt:62:18
 float-from-bits-halved : tie.Need-float-from-bits-halved
 float-from-bits-halved c = let n = whole (c .before) in halved-not-nan (c .before .whole-part .result / 256) (omega arith)
 
--- src/lib.rt:63:20
 mul-result : tie.Need-mul-result
 mul-result c = search needs
 
--- src/lib.rt:63:20
 element-copy-out-result : tie.Need-element-copy-out-result
 element-copy-out-result c = search needs
 
--- src/lib.rt:63:5
 float-from-bits-result : tie.Need-float-from-bits-result
 float-from-bits-result c = subst (λ (ps : List ℕ). T (not (nanBits binary32 (getD ps (c .before .before .whole-part .result % 256) 0)))) (sym (c .before .before .before .pre .0)) (power-not-nan (c .before .before .whole-part .result % 256) (omega arith))
 
--- src/lib.rt:53:1
 -- the code's steps, by the table ps and the whole part n that it reads
 computed : List ℕ → ℕ → Float → Float
 computed ps n y =

@@ -22,36 +22,28 @@ Inv-loop row₀ largest powers i₀ row i = (i ≤ length row₀) × (row ≡ ma
 abbrev μ-loop : tie.MeasureT-loop
 μ-loop row₀ largest powers i₀ row i = length row₀ - i
 
--- src/lib.rt:107:5
 loop-holds : tie.Need-loop-holds Inv-loop μ-loop
 unfolding powerBits
 loop-holds c = (omega arith, refl, refl)
 
--- src/lib.rt:108:53
 mul-exp-neg-or-zero : tie.Need-mul-exp-neg-or-zero Inv-loop μ-loop
 mul-exp-neg-or-zero c = search needs
 
--- src/lib.rt:108:53
 slice-read-exp-neg-or-zero : tie.Need-slice-read-exp-neg-or-zero Inv-loop μ-loop
 slice-read-exp-neg-or-zero c = search needs
 
--- src/lib.rt:108:18
 exp-neg-or-zero-requires : tie.Need-exp-neg-or-zero-requires Inv-loop μ-loop
 exp-neg-or-zero-requires c κs = search needs
 
--- src/lib.rt:108:9
 mul-row : tie.Need-mul-row Inv-loop μ-loop
 mul-row c = search needs
 
--- src/lib.rt:108:9
 slice-write-row : tie.Need-slice-write-row Inv-loop μ-loop
 slice-write-row c = search needs
 
--- src/lib.rt:109:9
 add-i : tie.Need-add-i Inv-loop μ-loop
 add-i c = omega arith
 
--- src/lib.rt:107:5
 -- the row keeps its length
 as-long : (c : tie.At-loop Inv-loop μ-loop) → length (c .loop .row) ≡ length (c .before .before .args .row .now)
 as-long c = ap length (c .loop .inv .1) ∙ length-mappedTo (eachOf (c .before .before .args .largest)) (c .loop .i) (c .before .before .args .row .now)
@@ -59,7 +51,6 @@ as-long c = ap length (c .loop .inv .1) ∙ length-mappedTo (eachOf (c .before .
 loop-less : tie.Need-loop-less Inv-loop μ-loop
 loop-less c = let n = as-long (c .before .before .before .before) in omega arith
 
--- src/lib.rt:107:5
 loop-again : tie.Need-loop-again Inv-loop μ-loop
 loop-again c =
     let a = c .before .before .before .before in
@@ -73,11 +64,9 @@ loop-again c =
       a .loop .inv .2,
     )
 
--- src/lib.rt:102:1
 same-length : tie.Need-same-length Inv-loop μ-loop
 same-length c = as-long (c .before)
 
--- src/lib.rt:102:1
 returns : tie.Need-returns Inv-loop μ-loop
 unfolding expNegRowOf
 returns c =
