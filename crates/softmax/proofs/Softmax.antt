@@ -1,12 +1,12 @@
--- The steps of `softmax_row` on a row of scores give its weights: E in place, the sum of all elements, and the quotients, hidden positions being +0 throughout. Assumes nothing.
+-- The steps of `softmax_row` on a row of scores give its weights: +0 throughout where it is fully masked, and otherwise E in place, the sum of all elements and the quotients, hidden positions being +0. E is asked only where it has a value. Assumes nothing.
 use mathlib.Core.Path.{_≡_, refl, sym, ap, _∙_, subst}
-use mathlib.Core.Bool.{Bool, true, false, not, _||_, true≢false}
+use mathlib.Core.Bool.{Bool, true, false, not, true≢false}
 use mathlib.Core.List.{List, map}
 use Prim.Native.Nat.{ℕ, zero, suc, _≤_, _<_}
 use native.Mathlib.Nat.{le-refl, le-trans, le-suc}
 use lib.IntN.{ℤ}
 use lib.Dec.{T}
-use lib.ListN.{length, length-map, List·getD-map}
+use lib.ListN.{length, length-map, List·getD-map, replicate, length-replicate, getD-replicate}
 use lib.Seq.{ext-getD}
 use lib.Ieee.{Float, nan, inf, fin, binary32, add, sub, div, lt, eq, fits, isNan}
 use lib.Ieee.Fits.{add-fits}
@@ -15,11 +15,11 @@ use Rattle.float_laws.proofs.Order.{lt-of-lt-of-le as lt-of-lt-of-le-float}
 use Rattle.float_laws.proofs.Zero.{add-zero-right, zero-div}
 use Rattle.tensor_laws.proofs.Tabulate.{length-tabulate, getD-tabulate}
 use Rattle.exponential.specs.ExpNeg.{plusZero, one, expNegOf, expNegRowOf, valueOrZero}
-use Rattle.exponential.proofs.Laws.{InUnit, no-value-where, value-at-infinity, length-row, getD-row}
+use Rattle.exponential.proofs.Laws.{InUnit, hasValue, value-at-infinity, length-row, getD-row}
 use Rattle.softmax.specs.Row.{Largest, noneSeen, largest, largestOf, termOf, addWhere, sumOf, weightWhere, weightOf, isNone, fullyMaskedOf}
 use Rattle.softmax.specs.Lists.{elementOf, hidden, isHidden, isScoreRow, seesOf, scoreOrHidden, largestRowOf, totalRowOf, softmaxRowOf, maskedRowOf}
 use Rattle.softmax.proofs.Structure.{masked-unseen, hidden-weight-zero, agree-sum}
-use Rattle.softmax.proofs.Unit.{largest-finite, largest-reached, term-in-unit, sum-at-most, sum-at-least-one}
+use Rattle.softmax.proofs.Unit.{largest-finite, largest-reached, asked-where-valued, term-in-unit, sum-at-most, sum-at-least-one}
 use Rattle.softmax.proofs.Scores.{isScore, score-at}
 
 -- ---- positions that are seen, and those that are not
@@ -45,20 +45,15 @@ above-hidden : (s : Bool) (m : ℕ) (e : ℤ) → sub binary32 (fin s m e) hidde
 unfolding sub
 above-hidden s m e = refl
 
+hidden-valued : (m : Float) → T (finite m) → T (hasValue (sub binary32 m hidden))
+hidden-valued (fin s m e) p = subst (λ (x : Float). T (hasValue x)) (sym (above-hidden s m e)) infinity-valued
+  where
+    infinity-valued : T (hasValue (inf false))
+    infinity-valued = unfold isNan lt in tt
+
 hidden-term : (m : Float) → T (finite m) → termOf (largest m) hidden ≡ plusZero
 unfolding termOf
 hidden-term (fin s m e) p = ap (λ (x : Float). valueOrZero (expNegOf x)) (above-hidden s m e) ∙ ap valueOrZero value-at-infinity
-
-no-difference : sub binary32 hidden hidden ≡ nan
-unfolding sub
-no-difference = refl
-
-nan-is-nan : T (isNan nan || lt nan plusZero)
-unfolding isNan
-nan-is-nan = tt
-
-hidden-from-hidden : valueOrZero (expNegOf (sub binary32 hidden hidden)) ≡ plusZero
-hidden-from-hidden = ap (λ (x : Float). valueOrZero (expNegOf x)) no-difference ∙ ap valueOrZero (no-value-where nan nan-is-nan)
 
 -- ---- the sum over all positions is that over the seen ones, where the others' terms are +0
 
@@ -93,22 +88,18 @@ module _ (row : List Float) (scores : T (isScoreRow row)) (short : length row �
   abbrev pub rowLargest : Largest
   rowLargest = largestOf (length row) (seesOf row) (elementOf row)
 
-  -- a fully masked row: E in place gives +0 throughout
-  pub masked-way : rowLargest ≡ noneSeen → (maskedRowOf row ≡ true) × (expNegRowOf (largestRowOf row) row ≡ softmaxRowOf row)
-  unfolding largestRowOf maskedRowOf fullyMaskedOf softmaxRowOf
+  -- a fully masked row has the weight +0 throughout
+  pub masked-way : rowLargest ≡ noneSeen → (maskedRowOf row ≡ true) × (replicate (length row) plusZero ≡ softmaxRowOf row)
+  unfolding maskedRowOf fullyMaskedOf softmaxRowOf
   masked-way e =
       let masked : fullyMaskedOf (length row) (seesOf row) (elementOf row) ≡ true = ap isNone e in
-      let m : largestRowOf row ≡ hidden = ap scoreOrHidden e in (
+      let weights = weightOf (length row) (seesOf row) (elementOf row) in (
         masked,
-        ext-getD nan (expNegRowOf (largestRowOf row) row) (softmaxRowOf row) (length-row (largestRowOf row) row ∙ sym (length-tabulate (length row) (weightOf (length row) (seesOf row) (elementOf row))))
+        ext-getD nan (replicate (length row) plusZero) (softmaxRowOf row) (length-replicate (length row) plusZero ∙ sym (length-tabulate (length row) weights))
             (λ j h.
-            let l : j < length row = subst (λ (k : ℕ). j < k) (length-row (largestRowOf row) row) h in
-            let s : seesOf row j ≡ false = masked-unseen (length row) (seesOf row) (elementOf row) masked j l in
-            getD-row (largestRowOf row) row j nan l
-            ∙ ap (λ (x : Float). valueOrZero (expNegOf (sub binary32 x (elementOf row j)))) m
-            ∙ ap (λ (x : Float). valueOrZero (expNegOf (sub binary32 hidden x))) (hidden-where (elementOf row j) s)
-            ∙ hidden-from-hidden
-            ∙ sym (getD-tabulate (length row) (weightOf (length row) (seesOf row) (elementOf row)) j nan l ∙ hidden-weight-zero (length row) (seesOf row) (elementOf row) j s)),
+            let l : j < length row = subst (λ (k : ℕ). j < k) (length-replicate (length row) plusZero) h in
+            getD-replicate (length row) j plusZero nan l
+            ∙ sym (getD-tabulate (length row) weights j nan l ∙ hidden-weight-zero (length row) (seesOf row) (elementOf row) j (masked-unseen (length row) (seesOf row) (elementOf row) masked j l))),
       )
 
   -- any other row: the sum of all elements is the sum of the terms, at least 1, and the quotients are the weights
@@ -129,6 +120,14 @@ module _ (row : List Float) (scores : T (isScoreRow row)) (short : length row �
         getD-row (largestRowOf row) row j nan h
         ∙ ap (λ (l : Largest). valueOrZero (expNegOf (sub binary32 (scoreOrHidden l) (elementOf row j)))) e
         ∙ sym (ap (λ (l : Largest). termOf l (elementOf row j)) e)
+
+    -- E is asked only where it has a value, at hidden positions too
+    pub asked-valued : (j : ℕ) → j < length row → T (hasValue (sub binary32 m (elementOf row j)))
+    asked-valued j h = go (seesOf row j) refl
+      where
+        go : (b : Bool) → seesOf row j ≡ b → T (hasValue (sub binary32 m (elementOf row j)))
+        go true s = asked-where-valued (length row) (seesOf row) (elementOf row) (seen-finite row scores) m e j h s
+        go false s = subst (λ (x : Float). T (hasValue (sub binary32 m x))) (sym (hidden-where (elementOf row j) s)) (hidden-valued m (largest-finite (length row) (seesOf row) (elementOf row) (seen-finite row scores) m e))
 
     rowSum : Float
     rowSum = sumOf (length row) (seesOf row) termAt
@@ -194,11 +193,11 @@ unfolding eq
 hidden-is-hidden = refl
 
 module _ (row : List Float) (scores : T (isScoreRow row)) (short : length row ≤ 2048) where
-  pub tested-masked : eq (largestRowOf row) hidden ≡ true → (true ≡ maskedRowOf row) × (expNegRowOf (largestRowOf row) row ≡ softmaxRowOf row)
+  pub tested-masked : eq (largestRowOf row) hidden ≡ true → (true ≡ maskedRowOf row) × (replicate (length row) plusZero ≡ softmaxRowOf row)
   unfolding largestRowOf
   tested-masked h = go (largestOf (length row) (seesOf row) (elementOf row)) refl
     where
-      go : (l : Largest) → largestOf (length row) (seesOf row) (elementOf row) ≡ l → (true ≡ maskedRowOf row) × (expNegRowOf (largestRowOf row) row ≡ softmaxRowOf row)
+      go : (l : Largest) → largestOf (length row) (seesOf row) (elementOf row) ≡ l → (true ≡ maskedRowOf row) × (replicate (length row) plusZero ≡ softmaxRowOf row)
       go noneSeen e = let w = masked-way row scores short e in (sym (w .0), w .1)
       go (largest m) e = absurd (true≢false (sym h ∙ ap (λ (l : Largest). eq (scoreOrHidden l) hidden) e ∙ not-hidden m (largest-finite (length row) (seesOf row) (elementOf row) (seen-finite row scores) m e)))
 

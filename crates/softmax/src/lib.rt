@@ -85,17 +85,18 @@ fn divide_row(row: &mut [f32], x: f32)
     }
 }
 
-// The weights of a row of scores, in place, and whether the row is fully masked.
+// The weights of a row of scores, in place, and whether the row is fully masked. A fully masked row is not handed to E, which has no value there.
 pub fn softmax_row(row: &mut [f32]) -> bool
     requires { ⌜ T (isScoreRow (now row)) ⌝ }
     requires { ⌜ length (now row) ≤ 2048 ⌝ }
     ensures { λ r. ⌜ (r ≡ maskedRowOf (now (row .entry))) × (now (row .exit) ≡ softmaxRowOf (now (row .entry))) ⌝ }
 {
     let m = largest(row);
-    exponential::exp_neg_row(row, m);
     if m == -f32::from_bits(0x7f800000) {
+        fill_row(row, 0.0);
         return true;
     }
+    exponential::exp_neg_row(row, m);
     let sum = total(row);
     divide_row(row, sum);
     false

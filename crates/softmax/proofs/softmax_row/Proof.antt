@@ -12,27 +12,32 @@ use Rattle.softmax.proofs.softmax_row.Tie as tie
 largest-requires : tie.Need-largest-requires
 largest-requires c κs = search needs
 
-exp-neg-row-requires : tie.Need-exp-neg-row-requires
-exp-neg-row-requires c κs = search needs
-
 float-from-bits-if1 : tie.Need-float-from-bits-if1
 unfolding nanBits
 float-from-bits-if1 c = tt
 
+fill-row-requires : tie.Need-fill-row-requires
+fill-row-requires c κs = search needs
+
 same-length : tie.Need-same-length
 same-length c = search needs
-
--- E in place, by the row as it came in
-in-place : (c : tie.After-exp-neg-row) → let row = c .before .before .before .before .before .args .row .now in c .exp-neg-row .last .0 ≡ expNegRowOf (largestRowOf row) row
-in-place c = let row = c .before .before .before .before .before .args .row .now in c .exp-neg-row .ensures ∙ ap (λ (m : Float). expNegRowOf m row) (c .before .before .largest .ensures)
 
 returns : tie.Need-returns
 unfolding ofBits neg
 returns c =
-    let a = c .before .before .before in
-    let entry = a .before .before .before .before .before in
-    let w = tested-masked (entry .args .row .now) (entry .pre .0) (entry .pre .1) (ap (λ (m : Float). eq m hidden) (sym (a .before .before .largest .ensures)) ∙ c .if1 .taken) in
-    (w .0, in-place a ∙ w .1)
+    let f = c .before .before in
+    let t = f .before .before in
+    let a = t .before in
+    let entry = a .before .before .before in
+    let w = tested-masked (entry .args .row .now) (entry .pre .0) (entry .pre .1) (ap (λ (m : Float). eq m hidden) (sym (a .largest .ensures)) ∙ t .if1 .taken) in
+    (w .0, f .fill-row .ensures ∙ w .1)
+
+exp-neg-row-requires : tie.Need-exp-neg-row-requires
+exp-neg-row-requires c κs = search needs
+
+-- E in place, by the row as it came in
+in-place : (c : tie.After-exp-neg-row) → let row = c .before .before .before .before .before .before .args .row .now in c .exp-neg-row .last .0 ≡ expNegRowOf (largestRowOf row) row
+in-place c = let row = c .before .before .before .before .before .before .args .row .now in c .exp-neg-row .ensures ∙ ap (λ (m : Float). expNegRowOf m row) (c .before .before .before .largest .ensures)
 
 total-requires : tie.Need-total-requires
 total-requires c κs = search needs
@@ -48,15 +53,15 @@ unfolding ofBits neg
 returns-2 c =
     let d = c .before .before in
     let t = d .before .before in
-    let f = t .before .before in
-    let a = f .before .before .before in
-    let entry = a .before .before .before .before .before in
-    let row = entry .args .row .now in
-    let w = tested-seen row (entry .pre .0) (entry .pre .1) (ap (λ (m : Float). eq m hidden) (sym (a .before .before .largest .ensures)) ∙ f .if1 .left) in (
+    let e = t .before .before .before .before in
+    let f = e .before .before in
+    let a = f .before in
+    let entry = a .before .before .before in
+    let w = tested-seen (entry .args .row .now) (entry .pre .0) (entry .pre .1) (ap (λ (m : Float). eq m hidden) (sym (a .largest .ensures)) ∙ f .if1 .left) in (
       w .0,
       d .divide-row .ensures
-          ∙ ap (λ (x : Float). map (λ e. div binary32 e x) (a .exp-neg-row .last .0)) (t .total .ensures)
-          ∙ ap (λ (r : List Float). map (λ e. div binary32 e (totalRowOf r)) r) (in-place a)
+          ∙ ap (λ (x : Float). map (λ z. div binary32 z x) (e .exp-neg-row .last .0)) (t .total .ensures)
+          ∙ ap (λ (r : List Float). map (λ z. div binary32 z (totalRowOf r)) r) (in-place e)
           ∙ w .1,
     )
 
@@ -65,10 +70,11 @@ softmax-row-spec =
     tie.close
     (tie.spec
     largest-requires
-    exp-neg-row-requires
     float-from-bits-if1
+    fill-row-requires
     same-length
     returns
+    exp-neg-row-requires
     total-requires
     divide-row-requires
     same-length-2
