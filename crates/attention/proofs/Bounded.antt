@@ -19,8 +19,8 @@ use Rattle.call.specs.declared.MaskKind.the-variants.{NoMask, Boolean, Float as
 use Rattle.call.specs.Tensors.{Inputs, Outputs}
 use Rattle.call.specs.Limits.{totalOf, maskShapeHolds}
 use Rattle.call.specs.Lengths.{inFloat, maskLength}
-use Rattle.call.specs.Contents.{liveOf, cellFault, floatMaskFault}
-use Rattle.call.proofs.Search.{nothing→clear}
+use Rattle.call.specs.Contents.{liveOf, cellFault}
+use Rattle.call.proofs.Clear.{cells→clear}
 use Rattle.call.proofs.Accepted.{Accepts}
 use Rattle.call.proofs.Facts.{holds, limits→facts, fit→lengths, shape→facts}
 use Rattle.attention.specs.Elements.{keyHeadOf, queryAt, keyAt}
@@ -87,7 +87,7 @@ module _ {c : Call} {x : Inputs} {y : Outputs} (a : Accepts c x y) (b h i : ℕ)
   mask-cell-finite m j l n =
       let e : length (x .floatMask) ≡ maskLength c = subst (λ (k : MaskKind). length (x .floatMask) ≡ inFloat k (maskLength c)) m (fit→lengths c x (a .inputs) .floatMask) in
       cell-finite (maskCell c x b h i j)
-      (nothing→clear (λ i z. cellFault z) nan (x .floatMask) (unfold floatMaskFault in a .cells) (maskIndex c b h i j) (rw e (mask-index-lt c (a .maskShape) (inr m) b h i j hb hh hi l))) n
+      (cells→clear (x .floatMask) (a .cells) (maskIndex c b h i j) (rw e (mask-index-lt c (a .maskShape) (inr m) b h i j hb hh hi l))) n
 
   -- the score of an admitted key after the mask is finite
   pub admitted-finite : MaskFits x → (j : ℕ) → admits c x b h i j ≡ true → T (finite (maskedScore c x b h i j))

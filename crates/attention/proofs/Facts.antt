@@ -4,12 +4,12 @@ use mathlib.Core.List.{List}
 use Prim.Native.Nat.{ℕ, _+_, _-_, _*_, _/_, _%_, _≤_, _<_, zero-le}
 use native.Mathlib.Nat.{le-refl, div-lt-iff-lt-mul, div-add-mod', mul-comm}
 use native.Mathlib.Omega.{arith}
-use mathlib.Core.Bool.{Bool, true, false, not, _&&_, true≢false}
+use mathlib.Core.Bool.{Bool, true, false, not}
 use lib.IntN.{ℤ, pos, negsuc}
 use lib.Arith.{digits-div}
 use lib.Dec.{T, ltb, ltb→lt, nltb→le, lt→ltb, eqb→eq}
 use lib.ListN.{length, getD}
-use lib.Ieee.{Float, nan, le, lt}
+use lib.Ieee.{Float, le, lt}
 use lib.Ieee.Fits.{and-l, and-r}
 use lib.Ieee.Bits.{is-true}
 use Rattle.float_laws.proofs.Order.{lt→le, le-trans}
@@ -30,8 +30,8 @@ use Rattle.call.specs.declared.Scale.the-variants.{Absent, Given}
 use Rattle.call.specs.Tensors.{Inputs, Outputs}
 use Rattle.call.specs.Limits.{groupsHold, totalOf, pastAllowed, scaleAllowed}
 use Rattle.call.specs.Lengths.{inCached, inCounted}
-use Rattle.call.specs.Contents.{nothing, countFault, liveFault, elementFault, countOf, liveIn, liveOf, tensorFault, lookedAt, incomingFault}
-use Rattle.call.proofs.Search.{nothing→clear}
+use Rattle.call.specs.Contents.{nothing, countFault, countOf, liveIn, liveOf, tensorFault, lookedAt, incomingFault}
+use Rattle.call.proofs.Clear.{live→clear, element→bounded, tensor→clear, incoming→looked}
 use Rattle.call.proofs.Accepted.{Accepts}
 use Rattle.call.proofs.Facts.{holds, limits→facts, past-allowed, groups→multiple, settings→facts, fit→lengths}
 use Rattle.attention.specs.Elements.{cellAt, keyHeadOf, queryAt, positionCell, keyAt, valueAt}
@@ -39,27 +39,11 @@ use Rattle.attention.specs.Formula.{defaultOr, scaleWhere, effectiveScal
 
 -- ---- what a search that finds nothing says of an element
 
-unfaulted : (b : Bool) → not b ≡ false → T b
-unfaulted true e = tt
-unfaulted false e = absurd (true≢false e)
-
-second-false : (a b : Bool) → a ≡ true → (a && b) ≡ false → b ≡ false
-second-false true b p e = e
-second-false false b p e = absurd (true≢false (sym p))
-
-clear→bounded : (x : Float) → elementFault x ≡ false → T (bounded elementBound x)
-unfolding elementFault
-clear→bounded x e = unfaulted (bounded elementBound x) e
-
 tensor-bounded : (t : List Float) → tensorFault t ≡ nothing → (i : ℕ) → i < length t → T (bounded elementBound (elementOf t i))
-unfolding tensorFault
-tensor-bounded t e i h = clear→bounded (elementOf t i) (nothing→clear (λ i x. elementFault x) nan t e i h)
+tensor-bounded t e i h = element→bounded (elementOf t i) (tensor→clear t e i h)
 
 incoming-bounded : (c : Call) (live : List ℤ) (size : ℕ) (t : List Float) → incomingFault c live size t ≡ nothing → (i : ℕ) → i < length t → lookedAt c live size i ≡ true → T (bounded elementBound (elementOf t i))
-unfolding incomingFault
-incoming-bounded c live size t e i h l =
-    clear→bounded (elementOf t i)
-    (second-false (lookedAt c live size i) (elementFault (elementOf t i)) l (nothing→clear (λ i x. lookedAt c live size i && elementFault x) nan t e i h))
+incoming-bounded c live size t e i h l = element→bounded (elementOf t i) (incoming→looked c live size t e i h l)
 
 -- ---- the live counts
 
@@ -101,7 +85,7 @@ module _ {c : Call} {x : Inputs} {y : Outputs} (a : Accepts c x y) where
   pub live-le-total : (b : ℕ) → b < c .batches → liveOf c (x .live) b ≤ totalOf c
   live-le-total b h =
       live-in-le (c .form) (totalOf c) (c .batches) (x .live) (fit→lengths c x (a .inputs) .live)
-      (nothing→clear (λ i n. countFault (totalOf c) n) (pos 0) (x .live) (unfold liveFault in a .live)) b h
+      (live→clear c (x .live) (a .live)) b h
 
   pub key-head-lt : (h : ℕ) → h < c .qheads → keyHeadOf c h < c .kvheads
   key-head-lt = grouped-head-lt c (a .groups)

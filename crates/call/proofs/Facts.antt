@@ -1,5 +1,5 @@
--- What the first six refusals say where they do not apply: the dimensions' limits, a past of 0 outside the cached form, the head groups, the settings, the mask's dimensions, and the length of every lent tensor. Assumes nothing.
-use mathlib.Core.Path.{_≡_, sym, subst}
+-- What the first six refusals say where they do not apply: the dimensions' limits, a past of 0 outside the cached form, the head groups, the settings, the mask's dimensions, and the length of every lent tensor; the converses for the limits and the lengths; and what 2, 3 and 4 look at. Assumes nothing.
+use mathlib.Core.Path.{_≡_, sym, ap, subst}
 use mathlib.Core.Logic.{_⊎_, inl, inr}
 use Prim.Native.Nat.{ℕ, _%_, _≤_}
 use mathlib.Core.Bool.{Bool, true, false, _&&_, _||_}
@@ -7,9 +7,10 @@ use lib.Dec.{T, leb, eqb, leb→le, eqb→eq}
 use lib.ListN.{length}
 use lib.Ieee.Fits.{and-l, and-r}
 use lib.Ieee.Bits.{is-true}
+use borrow.Author.Tests.{le-leb, eq-eqb}
 use Rattle.call.specs.declared.Call.{Call}
 use Rattle.call.specs.declared.MaskKind.{MaskKind}
-use Rattle.call.specs.declared.MaskKind.the-variants.{Boolean, Float as FloatMask}
+use Rattle.call.specs.declared.MaskKind.the-variants.{NoMask, Boolean, Float as FloatMask}
 use Rattle.call.specs.Tensors.{Inputs, Outputs}
 use Rattle.call.specs.Limits.{totalOf, within, pastAllowed, limitsHold, groupsHold, modeAllowed, scaleAllowed, settingsHold, oneOr, dimensionsHold, whereMasked, maskShapeHolds}
 use Rattle.call.specs.Lengths.{inBoolean, inFloat, queryLength, keyLength, valueLength, maskLength, pastKeyLength, pastValueLength, liveLength, outputLength, presentKeyLength, presentValueLength, scoresLength, inputsFit, outputsFit}
@@ -94,6 +95,29 @@ limits→facts c e =
       vsize-most = v .1;
     }
 
+-- where every dimension is within its limits and the form allows the past, refusal 1 does not apply
+pub facts→limits : (c : Call) → InLimits c → pastAllowed (c .form) (c .past) ≡ true → limitsHold c ≡ true
+unfolding limitsHold
+facts→limits c f p =
+    rw (
+      le-leb 1 (c .batches) (f .batches-some),
+      le-leb (c .batches) 8 (f .batches-most),
+      le-leb 1 (c .qheads) (f .qheads-some),
+      le-leb (c .qheads) 32 (f .qheads-most),
+      le-leb 1 (c .kvheads) (f .kvheads-some),
+      le-leb (c .kvheads) 32 (f .kvheads-most),
+      le-leb 1 (c .qlen) (f .qlen-some),
+      le-leb (c .qlen) 2048 (f .qlen-most),
+      le-leb 1 (c .klen) (f .klen-some),
+      le-leb (c .klen) 2048 (f .klen-most),
+      le-leb (totalOf c) 2048 (f .total-most),
+      le-leb 1 (c .size) (f .size-some),
+      le-leb (c .size) 256 (f .size-most),
+      le-leb 1 (c .vsize) (f .vsize-some),
+      le-leb (c .vsize) 256 (f .vsize-most),
+      p,
+    )
+
 -- the past is one that the form allows
 pub past-allowed : (c : Call) → limitsHold c ≡ true → T (pastAllowed (c .form) (c .past))
 past-allowed c e = limits-parts c e .1
@@ -104,6 +128,11 @@ past-allowed c e = limits-parts c e .1
 pub groups→multiple : (c : Call) → groupsHold c ≡ true → c .qheads % c .kvheads ≡ 0
 unfolding groupsHold
 groups→multiple c e = eqb→eq (c .qheads % c .kvheads) 0 (holds e)
+
+-- refusal 2 looks at the heads alone
+pub groups-same : (c d : Call) → c .qheads ≡ d .qheads → c .kvheads ≡ d .kvheads → groupsHold c ≡ groupsHold d
+unfolding groupsHold
+groups-same c d q k = λ i. eqb (q i % k i) 0
 
 -- ---- 3: settings
 
@@ -129,6 +158,11 @@ settings→facts c e =
       mode = is-true (modeAllowed (c .mode)) (q .2);
       scale = is-true (scaleAllowed (c .scale)) (q .3);
     }
+
+-- refusal 3 looks at the settings alone
+pub settings-same : (c d : Call) → c .rank ≡ d .rank → c .causal ≡ d .causal → c .mode ≡ d .mode → c .scale ≡ d .scale → settingsHold c ≡ settingsHold d
+unfolding settingsHold
+settings-same c d r l m s = λ i. (eqb (r i) 3 || eqb (r i) 4) && leb (l i) 1 && modeAllowed (m i) && scaleAllowed (s i)
 
 -- ---- 4: the mask's dimensions
 
@@ -161,6 +195,11 @@ shape→facts c e m = dimensions→facts c (shaped m)
     shaped (inl k) = subst (λ (m : MaskKind). T (whereMasked m (dimensionsHold c))) k (holds e)
     shaped (inr k) = subst (λ (m : MaskKind). T (whereMasked m (dimensionsHold c))) k (holds e)
 
+-- without a mask refusal 4 does not apply
+pub shape-without-mask : (c : Call) → c .mask ≡ NoMask → maskShapeHolds c ≡ true
+unfolding maskShapeHolds
+shape-without-mask c e = ap (λ (m : MaskKind). whereMasked m (dimensionsHold c)) e
+
 -- ---- 5 and 6: lengths
 
 -- every tensor that is read has its length
@@ -190,6 +229,21 @@ fit→lengths c x e =
       live = eqb→eq (length (x .live)) (liveLength c) (q .7);
     }
 
+-- where every tensor that is read has its length, refusal 5 does not apply
+pub lengths→fit : (c : Call) (x : Inputs) → InputLengths c x → inputsFit c x ≡ true
+unfolding inputsFit
+lengths→fit c x l =
+    rw (
+      eq-eqb (length (x .query)) (queryLength c) (l .query),
+      eq-eqb (length (x .key)) (keyLength c) (l .key),
+      eq-eqb (length (x .value)) (valueLength c) (l .value),
+      eq-eqb (length (x .boolMask)) (inBoolean (c .mask) (maskLength c)) (l .boolMask),
+      eq-eqb (length (x .floatMask)) (inFloat (c .mask) (maskLength c)) (l .floatMask),
+      eq-eqb (length (x .pastKey)) (pastKeyLength c) (l .pastKey),
+      eq-eqb (length (x .pastValue)) (pastValueLength c) (l .pastValue),
+      eq-eqb (length (x .live)) (liveLength c) (l .live),
+    )
+
 -- every tensor that is written has its length
 pub record OutputLengths (c : Call) (y : Outputs) : Type 0 where
   pub output : length (y .output) ≡ outputLength c
@@ -210,3 +264,15 @@ outputs→lengths c y e =
       scores = eqb→eq (length (y .scores)) (scoresLength c) (q .3);
       work = eqb→eq (length (y .work)) (totalOf c) (q .4);
     }
+
+-- where every tensor that is written has its length, refusal 6 does not apply
+pub lengths→outputs : (c : Call) (y : Outputs) → OutputLengths c y → outputsFit c y ≡ true
+unfolding outputsFit
+lengths→outputs c y l =
+    rw (
+      eq-eqb (length (y .output)) (outputLength c) (l .output),
+      eq-eqb (length (y .presentKey)) (presentKeyLength c) (l .presentKey),
+      eq-eqb (length (y .presentValue)) (presentValueLength c) (l .presentValue),
+      eq-eqb (length (y .scores)) (scoresLength c) (l .scores),
+      eq-eqb (length (y .work)) (totalOf c) (l .work),
+    )

@@ -1,4 +1,5 @@
 pub mod Search
+pub mod Clear
 pub mod Accepted
 pub mod Facts
 pub mod Edges

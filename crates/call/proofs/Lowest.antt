@@ -20,7 +20,8 @@ use Rattle.call.specs.Limits.{totalOf, limitsHold, groupsHold, settingsH
 use Rattle.call.specs.Lengths.{inputsFit, outputsFit}
 use Rattle.call.specs.Contents.{Found, nothing, at, countFault, liveFault, byteFault, cellFault, byteMaskFault, floatMaskFault, elementFault, tensorFault, lookedAt, incomingFault}
 use Rattle.call.specs.Refusals.{unless, whereFound, _then_, verdictOf}
-use Rattle.call.proofs.Search.{First, found→first, nothing→clear}
+use Rattle.call.proofs.Search.{First, found→first}
+use Rattle.call.proofs.Clear.{TensorClear, bytes→clear, tensor→clear, incoming→clear}
 use Rattle.call.proofs.Accepted.{verdict→accepts}
 
 -- ---- which numbers apply
@@ -59,10 +60,6 @@ abbrev pub applies : ℕ → Call → Inputs → Outputs → Bool
 applies n c x y = getD (numbers c x y) n false
 
 -- ---- where the fault is
-
--- no element of the tensor is at fault
-abbrev pub TensorClear : List Float → Type 0
-TensorClear t = (k : ℕ) → k < length t → elementFault (getD t k nan) ≡ false
 
 -- i is the first index at fault
 abbrev pub TensorFirst : List Float → ℕ → Type 0
@@ -225,17 +222,9 @@ module _ (c : Call) (x : Inputs) where
   unfolding tensorFault
   tensor-first t i e = found→first (λ k z. elementFault z) nan t i e
 
-  tensor-clear : (t : List Float) → tensorFault t ≡ nothing → TensorClear t
-  unfolding tensorFault
-  tensor-clear t e = nothing→clear (λ k z. elementFault z) nan t e
-
   incoming-first : (size : ℕ) (t : List Float) (i : ℕ) → incomingFault c (x .live) size t ≡ at i → IncomingFirst c x size t i
   unfolding incomingFault
   incoming-first size t i e = found→first (λ k z. lookedAt c (x .live) size k && elementFault z) nan t i e
-
-  incoming-clear : (size : ℕ) (t : List Float) → incomingFault c (x .live) size t ≡ nothing → IncomingClear c x size t
-  unfolding incomingFault
-  incoming-clear size t e = nothing→clear (λ k z. lookedAt c (x .live) size k && elementFault z) nan t e
 
   found→place : (a : Answer) → FoundIn c x a → AtFirst c x a
   unfolding liveFault byteMaskFault floatMaskFault
@@ -248,12 +237,12 @@ module _ (c : Call) (x : Inputs) where
   found→place OutputLength f = tt
   found→place (LiveCount i) f = found→first (λ k n. countFault (totalOf c) n) (pos 0) (x .live) i f
   found→place (MaskCell i) (inl f) = inl (found→first (λ k n. byteFault n) 0 (x .boolMask) i f)
-  found→place (MaskCell i) (inr f) = inr (nothing→clear (λ k n. byteFault n) 0 (x .boolMask) (f .0), found→first (λ k z. cellFault z) nan (x .floatMask) i (f .1))
+  found→place (MaskCell i) (inr f) = inr (bytes→clear (x .boolMask) (f .0), found→first (λ k z. cellFault z) nan (x .floatMask) i (f .1))
   found→place (Element zero i) f = tensor-first (x .query) i f
-  found→place (Element (suc zero) i) f = (tensor-clear (x .query) (f .0), tensor-first (x .pastKey) i (f .1))
-  found→place (Element (suc (suc zero)) i) f = (tensor-clear (x .query) (f .0), tensor-clear (x .pastKey) (f .1), incoming-first (c .size) (x .key) i (f .2))
-  found→place (Element (suc (suc (suc zero))) i) f = (tensor-clear (x .query) (f .0), tensor-clear (x .pastKey) (f .1), incoming-clear (c .size) (x .key) (f .2), tensor-first (x .pastValue) i (f .3))
-  found→place (Element (suc (suc (suc (suc zero)))) i) f = (tensor-clear (x .query) (f .0), tensor-clear (x .pastKey) (f .1), incoming-clear (c .size) (x .key) (f .2), tensor-clear (x .pastValue) (f .3), incoming-first (c .vsize) (x .value) i (f .4))
+  found→place (Element (suc zero) i) f = (tensor→clear (x .query) (f .0), tensor-first (x .pastKey) i (f .1))
+  found→place (Element (suc (suc zero)) i) f = (tensor→clear (x .query) (f .0), tensor→clear (x .pastKey) (f .1), incoming-first (c .size) (x .key) i (f .2))
+  found→place (Element (suc (suc (suc zero))) i) f = (tensor→clear (x .query) (f .0), tensor→clear (x .pastKey) (f .1), incoming→clear c (x .live) (c .size) (x .key) (f .2), tensor-first (x .pastValue) i (f .3))
+  found→place (Element (suc (suc (suc (suc zero)))) i) f = (tensor→clear (x .query) (f .0), tensor→clear (x .pastKey) (f .1), incoming→clear c (x .live) (c .size) (x .key) (f .2), tensor→clear (x .pastValue) (f .3), incoming-first (c .vsize) (x .value) i (f .4))
   found→place (Element (suc (suc (suc (suc (suc t))))) i) f = f
 
 -- the place in the answer of a refused call is the first one at fault

@@ -1,7 +1,7 @@
 -- A tensor of the right length has no element at fault exactly where none of its cells is: the cells of every batch, head, position and column are all its elements. Assumes nothing.
-use mathlib.Core.Path.{_≡_, refl, ap, _∙_}
+use mathlib.Core.Path.{_≡_, ap, _∙_}
 use mathlib.Core.List.{List}
-use mathlib.Core.Bool.{Bool, true, false, _&&_}
+use mathlib.Core.Bool.{true, false}
 use Prim.Native.Nat.{ℕ, _+_, _*_, _/_, _<_}
 use native.Mathlib.Nat.{div-lt-iff-lt-mul}
 use native.Mathlib.Omega.{arith}
@@ -16,7 +16,7 @@ use Rattle.tensor_laws.proofs.Cells.{index-lt, by-cells}
 use Rattle.call.specs.declared.Call.{Call}
 use Rattle.call.specs.Limits.{totalOf}
 use Rattle.call.specs.Contents.{nothing, elementFault, tensorFault, incomingFault, lookedAt, liveOf}
-use Rattle.call.proofs.Search.{nothing→clear, clear→nothing}
+use Rattle.call.proofs.Clear.{tensor→clear, clear→tensor, incoming→looked, looked→incoming}
 use Rattle.attention.specs.Elements.{cellAt}
 
 -- no cell is at fault
@@ -30,23 +30,12 @@ module _ (rank batches heads len size : ℕ) (t : List Float) (fits : length t �
 
   -- no element of a tensor of the right length is at fault exactly where no cell is
   pub nothing→good : tensorFault t ≡ nothing → GoodCells batches heads len size (cellAt t rank heads len size)
-  unfolding tensorFault
-  nothing→good e b h i k hb hh hi hk =
-      nothing→clear (λ i x. elementFault x) nan t e (slot rank heads len b h i * size + k) (inside b h i k hb hh hi hk)
+  nothing→good e b h i k hb hh hi hk = tensor→clear t e (slot rank heads len b h i * size + k) (inside b h i k hb hh hi hk)
 
   pub good→nothing : GoodCells batches heads len size (cellAt t rank heads len size) → tensorFault t ≡ nothing
-  unfolding tensorFault
   good→nothing g =
-      clear→nothing (λ i x. elementFault x) nan t
+      clear→tensor t
       (λ k l. by-cells rank batches heads len size (λ i. elementFault (getD t i nan) ≡ false) g k (rw fits at l))
-
-both-false : (a b : Bool) → a ≡ true → a && b ≡ false → b ≡ false
-both-false true b p e = e
-both-false false b p e = absurd (let z : _≡_ {A = ℕ} 0 1 = cc in omega arith)
-
-and-false : (a b : Bool) → b ≡ false → a && b ≡ false
-and-false true b e = e
-and-false false b e = refl
 
 -- K or V of a call in which every position is live
 module _ (c : Call) (live : List ℤ) (whole : (b : ℕ) → liveOf c live b ≡ totalOf c) (size : ℕ) (t : List Float)
@@ -62,16 +51,12 @@ module _ (c : Call) (live : List ℤ) (whole : (b : ℕ) → liveOf c live b ≡
 
   -- no element of it that is looked at is at fault exactly where no cell is
   pub nothing→good-incoming : incomingFault c live size t ≡ nothing → GoodCells (c .batches) (c .kvheads) (c .klen) size (cellAt t (c .rank) (c .kvheads) (c .klen) size)
-  unfolding incomingFault
   nothing→good-incoming e b h i k hb hh hi hk =
       let n : ℕ = slot (c .rank) (c .kvheads) (c .klen) b h i * size + k in
       let l : n < length t = inside (c .rank) (c .batches) (c .kvheads) (c .klen) size t fits b h i k hb hh hi hk in
-      both-false (lookedAt c live size n) (elementFault (getD t n nan)) (looked n l)
-      (nothing→clear (λ i x. lookedAt c live size i && elementFault x) nan t e n l)
+      incoming→looked c live size t e n l (looked n l)
 
   pub good→nothing-incoming : GoodCells (c .batches) (c .kvheads) (c .klen) size (cellAt t (c .rank) (c .kvheads) (c .klen) size) → incomingFault c live size t ≡ nothing
-  unfolding incomingFault
   good→nothing-incoming g =
-      clear→nothing (λ i x. lookedAt c live size i && elementFault x) nan t
-      (λ k l. and-false (lookedAt c live size k) (elementFault (getD t k nan))
-      (by-cells (c .rank) (c .batches) (c .kvheads) (c .klen) size (λ i. elementFault (getD t i nan) ≡ false) g k (rw fits at l)))
+      looked→incoming c live size t
+      (λ k l e. by-cells (c .rank) (c .batches) (c .kvheads) (c .klen) size (λ i. elementFault (getD t i nan) ≡ false) g k (rw fits at l))

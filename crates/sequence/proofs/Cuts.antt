@@ -2,14 +2,13 @@
 use mathlib.Core.Path.{_≡_, refl, sym, _∙_, subst}
 use mathlib.Core.List.{List, [], _∷_, _++_, append-assoc, append-nil}
 use mathlib.Core.Bool.{Bool, true, false}
-use Prim.Native.Nat.{_+_, _*_, _≤_}
+use Prim.Native.Nat.{_+_, _≤_}
 use native.Mathlib.Omega.{arith}
-use lib.ListN.{length, length-append, length-replicate}
-use Rattle.exponential.specs.ExpNeg.{plusZero}
+use lib.ListN.{length, length-append}
 use Rattle.call.specs.declared.Call.{Call}
-use Rattle.call.specs.Limits.{groupsHold, settingsHold}
 use Rattle.call.specs.Lengths.{inputsFit, outputsFit}
-use Rattle.sequence.specs.Positions.{Position}
+use Rattle.call.proofs.Facts.{groups-same, settings-same, fit→lengths, lengths→fit}
+use Rattle.sequence.specs.Positions.{Position, plainCall}
 use Rattle.sequence.specs.Chunks.{Chunk, start, lengthOf, chunkCall, chunkInputs, chunkOutcome, positionsOf, plainAccepted, entered}
 use Rattle.sequence.specs.Demand.{isDone}
 use Rattle.sequence.specs.Cuts.{cachesFor, fitsAfter, allFit, allPositions, allAccepted, CutHolds}
@@ -21,34 +20,39 @@ use Rattle.sequence.proofs.Theorem.{done-entered}
 
 -- the plain call over the positions that a list begins with is accepted where that over all is and there is one at least
 plain-before : (s : Call) (book ps : List Position) → 1 ≤ length book → PlainGood s (book ++ ps) → PlainGood s book
-unfolding groupsHold settingsHold
 plain-before s book ps some p =
     let n = length-append book ps in
     record {
       limited = record { dimensions = p .limited .dimensions; some = some; total = omega arith };
-      groups = p .groups;
-      settings = p .settings;
+      groups = groups-same (plainCall s book) (plainCall s (book ++ ps)) refl refl ∙ p .groups;
+      settings = settings-same (plainCall s book) (plainCall s (book ++ ps)) refl refl refl refl ∙ p .settings;
       good = good-before s book ps (p .good);
     }
 
--- the caches of a history have the right lengths
+-- a chunk that has the right lengths on caches of the right lengths has them on the caches of a history
 caches-fit : (s : Call) (book : List Position) (r : Chunk)
-    → inputsFit (chunkCall s (length book) r) (chunkInputs (cachesFor s (length book)) r) ≡ inputsFit (chunkCall s (length book) r) (chunkInputs (stateOf s book) r)
-unfolding inputsFit
-caches-fit s book r =
-    rw (
-      key-cache-length s book,
-      value-cache-length s book,
-      length-replicate (s .batches * s .kvheads * length book * s .size) plusZero,
-      length-replicate (s .batches * s .kvheads * length book * s .vsize) plusZero,
-    )
+    → inputsFit (chunkCall s (length book) r) (chunkInputs (cachesFor s (length book)) r) ≡ true → inputsFit (chunkCall s (length book) r) (chunkInputs (stateOf s book) r) ≡ true
+caches-fit s book r e =
+    let c = chunkCall s (length book) r in
+    let l = fit→lengths c (chunkInputs (cachesFor s (length book)) r) e in
+    lengths→fit c (chunkInputs (stateOf s book) r)
+    (record {
+      query = l .query;
+      key = l .key;
+      value = l .value;
+      boolMask = l .boolMask;
+      floatMask = l .floatMask;
+      pastKey = key-cache-length s book;
+      pastValue = value-cache-length s book;
+      live = l .live;
+    })
 
 -- a chunk that fits after a history is entered where the plain call over the history and it is accepted
 fits-entered : (s : Call) (book : List Position) (r : Chunk) → fitsAfter s (length book) r ≡ true → PlainGood s (book ++ positionsOf s r) → entered s (stateOf s book) book r ≡ true
 unfolding fitsAfter
 fits-entered s book r e p =
     let f = split (inputsFit (chunkCall s (length book) r) (chunkInputs (cachesFor s (length book)) r)) (outputsFit (chunkCall s (length book) r) (r .lent)) e in
-    fits→entered s book r (sym (caches-fit s book r) ∙ f .0) (f .1) p
+    fits→entered s book r (caches-fit s book r (f .0)) (f .1) p
 
 -- after a history, chunks that fit are all accepted where the plain call over the history and all their positions is
 plain→all : (s : Call) (book : List Position) (rs : List Chunk) → AllGood s book → allFit s (length book) rs ≡ true → PlainGood s (book ++ allPositions s rs) → allAccepted s (stateOf s book) rs ≡ true

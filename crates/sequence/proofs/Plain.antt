@@ -4,10 +4,8 @@ use mathlib.Core.List.{List}
 use mathlib.Core.Bool.{Bool, true, false, _&&_}
 use Prim.Native.Nat.{ℕ, _+_, _*_, _≤_, _<_}
 use native.Mathlib.Omega.{arith}
-use lib.Dec.{leb, eqb}
 use lib.Ieee.{nan}
-use lib.ListN.{length, replicate, length-replicate}
-use borrow.Author.Tests.{leb-true, le-leb, eq-eqb}
+use lib.ListN.{length, length-replicate}
 use Rattle.tensor_laws.proofs.Cells.{length-tensorOf, getD-tensorOf}
 use Rattle.exponential.specs.ExpNeg.{plusZero}
 use Rattle.call.specs.declared.Call.{Call}
@@ -15,11 +13,12 @@ use Rattle.call.specs.declared.Form.{Form}
 use Rattle.call.specs.declared.Form.the-variants.{Plain}
 use Rattle.call.specs.declared.Verdict.{Verdict}
 use Rattle.call.specs.declared.Verdict.the-variants.{Accepted, Refused}
-use Rattle.call.specs.Limits.{within, pastAllowed, limitsHold, groupsHold, settingsHold, maskShapeHolds, totalOf}
+use Rattle.call.specs.Limits.{pastAllowed, limitsHold, groupsHold, settingsHold, totalOf}
 use Rattle.call.specs.Lengths.{inputsFit, outputsFit, outputLength, presentKeyLength, presentValueLength, scoresLength}
-use Rattle.call.specs.Contents.{tensorFault, liveFault, byteMaskFault, floatMaskFault}
 use Rattle.call.specs.Refusals.{verdictOf}
+use Rattle.call.proofs.Clear.{no-live, no-bytes, no-cells, no-elements}
 use Rattle.call.proofs.Accepted.{Accepts, verdict→accepts, accepts→verdict}
+use Rattle.call.proofs.Facts.{limits→facts, facts→limits, shape-without-mask, lengths→fit, lengths→outputs}
 use Rattle.attention.specs.Elements.{cellAt}
 use Rattle.sequence.specs.Positions.{Position, positionOf, causalCall, plainCall, plainInputs, rightOutputs}
 use Rattle.sequence.specs.Chunks.{isAccepted, plainAccepted}
@@ -40,11 +39,11 @@ both {b = b} p q = ap (λ a. a && b) p ∙ q
 
 -- the dimensions that all calls of a recording share are within their limits
 pub record Dimensions (s : Call) : Type 0 where
-  pub batches : within 1 8 (s .batches) ≡ true
-  pub qheads : within 1 32 (s .qheads) ≡ true
-  pub kvheads : within 1 32 (s .kvheads) ≡ true
-  pub size : within 1 256 (s .size) ≡ true
-  pub vsize : within 1 256 (s .vsize) ≡ true
+  pub batches : (1 ≤ s .batches) × (s .batches ≤ 8)
+  pub qheads : (1 ≤ s .qheads) × (s .qheads ≤ 32)
+  pub kvheads : (1 ≤ s .kvheads) × (s .kvheads ≤ 32)
+  pub size : (1 ≤ s .size) × (s .size ≤ 256)
+  pub vsize : (1 ≤ s .vsize) × (s .vsize ≤ 256)
 
 -- they, Sq = Sk and T are
 pub record Limited (s : Call) (past n : ℕ) : Type 0 where
@@ -55,35 +54,43 @@ pub record Limited (s : Call) (past n : ℕ) : Type 0 where
 module _ (s : Call) (form : Form) (past n : ℕ) where
   -- refusal 1 does not apply to a causal call exactly where its dimensions are limited, and P is 0 where the form wants it
   pub limits→limited : limitsHold (causalCall s form past n) ≡ true → Limited s past n
-  unfolding limitsHold
   limits→limited e =
-      let b = within 1 8 (s .batches) in
-      let q = within 1 32 (s .qheads) in
-      let k = within 1 32 (s .kvheads) in
-      let l = within 1 2048 n in
-      let t = leb (past + n) 2048 in
-      let d = within 1 256 (s .size) in
-      let v = within 1 256 (s .vsize) in
-      let e8 = split (b && q && k && l && l && t && d && v) (pastAllowed form past) e in
-      let e7 = split (b && q && k && l && l && t && d) v (e8 .0) in
-      let e6 = split (b && q && k && l && l && t) d (e7 .0) in
-      let e5 = split (b && q && k && l && l) t (e6 .0) in
-      let e4 = split (b && q && k && l) l (e5 .0) in
-      let e3 = split (b && q && k) l (e4 .0) in
-      let e2 = split (b && q) k (e3 .0) in
-      let e1 = split b q (e2 .0) in
+      let f = limits→facts (causalCall s form past n) e in
       record {
-        dimensions = record { batches = e1 .0; qheads = e1 .1; kvheads = e2 .1; size = e6 .1; vsize = e7 .1 };
-        some = leb-true 1 n (split (leb 1 n) (leb n 2048) (e4 .1) .0);
-        total = leb-true (past + n) 2048 (e5 .1);
+        dimensions = record {
+          batches = (f .batches-some, f .batches-most);
+          qheads = (f .qheads-some, f .qheads-most);
+          kvheads = (f .kvheads-some, f .kvheads-most);
+          size = (f .size-some, f .size-most);
+          vsize = (f .vsize-some, f .vsize-most);
+        };
+        some = f .klen-some;
+        total = f .total-most;
       }
 
   pub limited→limits : pastAllowed form past ≡ true → Limited s past n → limitsHold (causalCall s form past n) ≡ true
-  unfolding limitsHold
   limited→limits p r =
-      let l : within 1 2048 n ≡ true = both (le-leb 1 n (r .some)) (le-leb n 2048 (omega arith)) in
       let d = r .dimensions in
-      both (both (both (both (both (both (both (both (d .batches) (d .qheads)) (d .kvheads)) l) l) (le-leb (past + n) 2048 (r .total))) (d .size)) (d .vsize)) p
+      let most : n ≤ 2048 = omega arith in
+      facts→limits (causalCall s form past n)
+      (record {
+        batches-some = d .batches .0;
+        batches-most = d .batches .1;
+        qheads-some = d .qheads .0;
+        qheads-most = d .qheads .1;
+        kvheads-some = d .kvheads .0;
+        kvheads-most = d .kvheads .1;
+        qlen-some = r .some;
+        qlen-most = most;
+        klen-some = r .some;
+        klen-most = most;
+        total-most = r .total;
+        size-some = d .size .0;
+        size-most = d .size .1;
+        vsize-some = d .vsize .0;
+        vsize-most = d .vsize .1;
+      })
+      p
 
 -- ---- the plain call
 
@@ -128,22 +135,23 @@ module _ (s : Call) (ps : List Position) where
   value-cell b g i k = getD-tensorOf (s .rank) (s .batches) (s .kvheads) (length ps) (s .vsize) (λ b h i k. positionOf ps i .value b h k) b g i k nan
 
   plain-inputs-fit : inputsFit (plainCall s ps) (plainInputs s ps) ≡ true
-  unfolding inputsFit plainInputs
+  unfolding plainInputs
   plain-inputs-fit =
-      both (both (both (both (both (both (both
-      (eq-eqb (length (plainInputs s ps .query)) (s .batches * s .qheads * length ps * s .size) query-length)
-      (eq-eqb (length (plainInputs s ps .key)) (s .batches * s .kvheads * length ps * s .size) key-length))
-      (eq-eqb (length (plainInputs s ps .value)) (s .batches * s .kvheads * length ps * s .vsize) value-length))
-      refl) refl) refl) refl) refl
+      lengths→fit (plainCall s ps) (plainInputs s ps)
+      (record { query = query-length; key = key-length; value = value-length; boolMask = refl; floatMask = refl; pastKey = refl; pastValue = refl; live = refl })
 
 -- the tensors of the right lengths fit
-right : (n : ℕ) → eqb (length (replicate n plusZero)) n ≡ true
-right n = eq-eqb (length (replicate n plusZero)) n (length-replicate n plusZero)
-
 right-outputs-fit : (c : Call) → outputsFit c (rightOutputs c) ≡ true
-unfolding outputsFit rightOutputs
+unfolding rightOutputs
 right-outputs-fit c =
-    both (both (both (both (right (outputLength c)) (right (presentKeyLength c))) (right (presentValueLength c))) (right (scoresLength c))) (right (totalOf c))
+    lengths→outputs c (rightOutputs c)
+    (record {
+      output = length-replicate (outputLength c) plusZero;
+      presentKey = length-replicate (presentKeyLength c) plusZero;
+      presentValue = length-replicate (presentValueLength c) plusZero;
+      scores = length-replicate (scoresLength c) plusZero;
+      work = length-replicate (totalOf c) plusZero;
+    })
 
 module _ (s : Call) (ps : List Position) where
   plain→accepts : plainAccepted s ps ≡ true → Accepts (plainCall s ps) (plainInputs s ps) (rightOutputs (plainCall s ps))
@@ -173,7 +181,7 @@ module _ (s : Call) (ps : List Position) where
       }
 
   good→accepts : PlainGood s ps → Accepts (plainCall s ps) (plainInputs s ps) (rightOutputs (plainCall s ps))
-  unfolding plainInputs maskShapeHolds liveFault byteMaskFault floatMaskFault tensorFault
+  unfolding plainInputs
   good→accepts p =
       let c = plainCall s ps in
       let x = plainInputs s ps in
@@ -181,18 +189,18 @@ module _ (s : Call) (ps : List Position) where
         limits = limited→limits s Plain 0 (length ps) refl (p .limited);
         groups = p .groups;
         settings = p .settings;
-        maskShape = refl;
+        maskShape = shape-without-mask c refl;
         inputs = plain-inputs-fit s ps;
         outputs = right-outputs-fit c;
-        live = refl;
-        bytes = refl;
-        cells = refl;
+        live = no-live c;
+        bytes = no-bytes;
+        cells = no-cells;
         query = good→nothing (s .rank) (s .batches) (s .qheads) (length ps) (s .size) (x .query) (query-length s ps)
             (λ b h i n hb hh l hn. rw (query-cell s ps b h i n hb hh l hn) (p .good i l .query b h n hb hh hn));
-        pastKey = refl;
+        pastKey = no-elements;
         key = good→nothing-incoming c (x .live) (λ b. refl) (s .size) (x .key) (key-length s ps)
             (λ b g i n hb hg l hn. rw (key-cell s ps b g i n hb hg l hn) (p .good i l .key b g n hb hg hn));
-        pastValue = refl;
+        pastValue = no-elements;
         value = good→nothing-incoming c (x .live) (λ b. refl) (s .vsize) (x .value) (value-length s ps)
             (λ b g i n hb hg l hn. rw (value-cell s ps b g i n hb hg l hn) (p .good i l .value b g n hb hg hn));
       }

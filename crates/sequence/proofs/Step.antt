@@ -4,25 +4,24 @@ use mathlib.Core.List.{List, [], _∷_, _++_}
 use mathlib.Core.Bool.{true, false, _&&_}
 use Prim.Native.Nat.{ℕ, _*_, _<_}
 use native.Mathlib.Omega.{arith}
-use lib.Dec.{eqb}
 use lib.Ieee.{nan}
 use lib.ListN.{length}
-use borrow.Author.Tests.{eqb-true}
 use Rattle.tensor_laws.proofs.Cells.{length-tensorOf, getD-tensorOf}
 use Rattle.call.specs.declared.Call.{Call}
 use Rattle.call.specs.declared.Form.the-variants.{Cached}
 use Rattle.call.specs.declared.Verdict.{Verdict}
 use Rattle.call.specs.declared.Verdict.the-variants.{Accepted, Refused}
 use Rattle.call.specs.Tensors.{Inputs}
-use Rattle.call.specs.Limits.{groupsHold, settingsHold, maskShapeHolds}
 use Rattle.call.specs.Lengths.{inputsFit, outputsFit}
 use Rattle.call.specs.Contents.{liveFault, byteMaskFault, floatMaskFault}
 use Rattle.call.specs.Refusals.{verdictOf}
+use Rattle.call.proofs.Clear.{no-live, no-bytes, no-cells}
 use Rattle.call.proofs.Accepted.{Accepts, verdict→accepts, accepts→verdict}
+use Rattle.call.proofs.Facts.{groups-same, settings-same, shape-without-mask, fit→lengths}
 use Rattle.attention.specs.Elements.{cellAt}
 use Rattle.attention.specs.Outcomes.{acceptedOf, outcomeWhere, attentionOf}
-use Rattle.sequence.specs.Positions.{Position, positionOf, keyCache, valueCache}
-use Rattle.sequence.specs.Chunks.{Chunk, State, lengthOf, chunkCall, chunkInputs, chunkOutcome, positionsOf, plainAccepted, entered}
+use Rattle.sequence.specs.Positions.{Position, positionOf, plainCall, keyCache, valueCache}
+use Rattle.sequence.specs.Chunks.{Chunk, lengthOf, chunkCall, chunkInputs, chunkOutcome, positionsOf, plainAccepted, entered}
 use Rattle.sequence.specs.Demand.{isDone}
 use Rattle.sequence.proofs.Cells.{nothing→good, good→nothing, nothing→good-incoming, good→nothing-incoming}
 use Rattle.sequence.proofs.Places.{stateOf, length-joined, AllGood, good-before, good-chunk, good-joined}
@@ -51,57 +50,19 @@ module _ (s : Call) (book : List Position) where
   unfolding valueCache
   value-cache-cell b g j k = getD-tensorOf 4 (s .batches) (s .kvheads) (length book) (s .vsize) (λ b g j k. positionOf book j .value b g k) b g j k nan
 
--- ---- the lengths of a chunk's own tensors
-
-record Fits (s : Call) (r : Chunk) : Type 0 where
-  query : length (r .query) ≡ s .batches * s .qheads * lengthOf r * s .size
-  key : length (r .key) ≡ s .batches * s .kvheads * lengthOf r * s .size
-  value : length (r .value) ≡ s .batches * s .kvheads * lengthOf r * s .vsize
-  boolMask : length (r .boolMask) ≡ 0
-  floatMask : length (r .floatMask) ≡ 0
-  live : length (r .live) ≡ 0
-
-inputs→fits : (s : Call) (st : State) (past : ℕ) (r : Chunk) → inputsFit (chunkCall s past r) (chunkInputs st r) ≡ true → Fits s r
-unfolding inputsFit
-inputs→fits s st past r e =
-    let q = eqb (length (r .query)) (s .batches * s .qheads * lengthOf r * s .size) in
-    let k = eqb (length (r .key)) (s .batches * s .kvheads * lengthOf r * s .size) in
-    let v = eqb (length (r .value)) (s .batches * s .kvheads * lengthOf r * s .vsize) in
-    let m = eqb (length (r .boolMask)) 0 in
-    let f = eqb (length (r .floatMask)) 0 in
-    let pk = eqb (length (st .key)) (s .batches * s .kvheads * past * s .size) in
-    let pv = eqb (length (st .value)) (s .batches * s .kvheads * past * s .vsize) in
-    let l = eqb (length (r .live)) 0 in
-    let e7 = split (q && k && v && m && f && pk && pv) l e in
-    let e6 = split (q && k && v && m && f && pk) pv (e7 .0) in
-    let e5 = split (q && k && v && m && f) pk (e6 .0) in
-    let e4 = split (q && k && v && m) f (e5 .0) in
-    let e3 = split (q && k && v) m (e4 .0) in
-    let e2 = split (q && k) v (e3 .0) in
-    let e1 = split q k (e2 .0) in
-    record {
-      query = eqb-true (length (r .query)) (s .batches * s .qheads * lengthOf r * s .size) (e1 .0);
-      key = eqb-true (length (r .key)) (s .batches * s .kvheads * lengthOf r * s .size) (e1 .1);
-      value = eqb-true (length (r .value)) (s .batches * s .kvheads * lengthOf r * s .vsize) (e2 .1);
-      boolMask = eqb-true (length (r .boolMask)) 0 (e3 .1);
-      floatMask = eqb-true (length (r .floatMask)) 0 (e4 .1);
-      live = eqb-true (length (r .live)) 0 (e7 .1);
-    }
+-- ---- accepted exactly when entered
 
 -- a list of length 0 is empty
 pub empty : {A : Type 0} (l : List A) → length l ≡ 0 → l ≡ []
 empty [] e = refl
 empty (x ∷ l) e = absurd (omega arith)
 
--- ---- accepted exactly when entered
-
 module _ (s : Call) (book : List Position) (r : Chunk) where
   -- no refusal applies to a chunk only where none applies to the plain call over the history and it
   accepts→plain : AllGood s book → Accepts (chunkCall s (length book) r) (chunkInputs (stateOf s book) r) (r .lent) → PlainGood s (book ++ positionsOf s r)
-  unfolding groupsHold settingsHold
   accepts→plain good a =
       let c = chunkCall s (length book) r in
-      let f = inputs→fits s (stateOf s book) (length book) r (a .inputs) in
+      let f = fit→lengths c (chunkInputs (stateOf s book) r) (a .inputs) in
       let d = limits→limited s Cached (length book) (lengthOf r) (a .limits) in
       let q = nothing→good (s .rank) (s .batches) (s .qheads) (lengthOf r) (s .size) (r .query) (f .query) (a .query) in
       let k = nothing→good-incoming c (r .live) (λ b. refl) (s .size) (r .key) (f .key) (a .key) in
@@ -109,8 +70,8 @@ module _ (s : Call) (book : List Position) (r : Chunk) where
       let n = length-joined s r book in
       record {
         limited = record { dimensions = d .dimensions; some = omega arith; total = omega arith };
-        groups = a .groups;
-        settings = a .settings;
+        groups = groups-same (plainCall s (book ++ positionsOf s r)) c refl refl ∙ a .groups;
+        settings = settings-same (plainCall s (book ++ positionsOf s r)) c refl refl refl refl ∙ a .settings;
         good = good-joined s book r good
             (λ i l. record {
               query = λ b h n hb hh hn. q b h i n hb hh l hn;
@@ -122,24 +83,23 @@ module _ (s : Call) (book : List Position) (r : Chunk) where
   -- none applies to a chunk of the right lengths where none applies to that plain call
   plain→accepts : inputsFit (chunkCall s (length book) r) (chunkInputs (stateOf s book) r) ≡ true → outputsFit (chunkCall s (length book) r) (r .lent) ≡ true
       → PlainGood s (book ++ positionsOf s r) → Accepts (chunkCall s (length book) r) (chunkInputs (stateOf s book) r) (r .lent)
-  unfolding groupsHold settingsHold maskShapeHolds liveFault byteMaskFault floatMaskFault
   plain→accepts inputs outputs p =
       let c = chunkCall s (length book) r in
-      let f = inputs→fits s (stateOf s book) (length book) r inputs in
+      let f = fit→lengths c (chunkInputs (stateOf s book) r) inputs in
       let d = p .limited in
       let new = good-chunk s book r (p .good) in
       let old = good-before s book (positionsOf s r) (p .good) in
       let n = length-joined s r book in
       record {
         limits = limited→limits s Cached (length book) (lengthOf r) refl (record { dimensions = d .dimensions; some = omega arith; total = omega arith });
-        groups = p .groups;
-        settings = p .settings;
-        maskShape = refl;
+        groups = groups-same c (plainCall s (book ++ positionsOf s r)) refl refl ∙ p .groups;
+        settings = settings-same c (plainCall s (book ++ positionsOf s r)) refl refl refl refl ∙ p .settings;
+        maskShape = shape-without-mask c refl;
         inputs = inputs;
         outputs = outputs;
-        live = ap (liveFault c) (empty (r .live) (f .live));
-        bytes = ap byteMaskFault (empty (r .boolMask) (f .boolMask));
-        cells = ap floatMaskFault (empty (r .floatMask) (f .floatMask));
+        live = ap (liveFault c) (empty (r .live) (f .live)) ∙ no-live c;
+        bytes = ap byteMaskFault (empty (r .boolMask) (f .boolMask)) ∙ no-bytes;
+        cells = ap floatMaskFault (empty (r .floatMask) (f .floatMask)) ∙ no-cells;
         query = good→nothing (s .rank) (s .batches) (s .qheads) (lengthOf r) (s .size) (r .query) (f .query)
             (λ b h i n hb hh l hn. new i l .query b h n hb hh hn);
         pastKey = good→nothing 4 (s .batches) (s .kvheads) (length book) (s .size) (keyCache s book) (key-cache-length s book)
