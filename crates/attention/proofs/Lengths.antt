@@ -22,8 +22,7 @@ use Rattle.call.proofs.Facts.{OutputLengths, outputs→lengths}
 use Rattle.attention.specs.Elements.{keyAt, valueAt}
 use Rattle.attention.specs.Formula.{attentionOutput, shownScore}
 use Rattle.attention.specs.Outcomes.{Outcome, whereCached, whereShown, outputTensor, presentKeyTensor, presentValueTensor, scoresTensor, workRow, acceptedOf, attentionOf}
-use Rattle.attention.proofs.Refused.{refused-outcome}
-use Rattle.attention.proofs.Weights.{accepted-outcome}
+use Rattle.attention.proofs.Outcome.{refused-outcome, accepted-outcome}
 
 -- the two have tensors of the same lengths
 pub record SameLengths (y z : Outputs) : Type 0 where

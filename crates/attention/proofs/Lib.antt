@@ -1,7 +1,8 @@
 pub mod Starred
 pub mod LayoutCalls
 pub mod Layouts
-pub mod Refused
+pub mod Outcome
+pub mod Causal
 pub mod Facts
 pub mod Bounded
 pub mod Weights

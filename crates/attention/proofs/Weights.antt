@@ -1,5 +1,5 @@
 -- What an accepted call computes: every weight lies from 0 to 1, E is asked only where it has a value, no element of any tensor is NaN, and the tensors lent for writing do not matter as they came in. Assumes nothing.
-use mathlib.Core.Path.{_≡_, refl, sym, ap, _∙_, subst}
+use mathlib.Core.Path.{_≡_, refl, sym, _∙_, subst}
 use Prim.Native.Nat.{ℕ, zero, suc, _-_, _*_, _^_, _≤_, _<_}
 use native.Mathlib.Omega.{arith}
 use mathlib.Core.Bool.{Bool, true, false, not}
@@ -21,7 +21,6 @@ use Rattle.call.specs.declared.Form.{Form}
 use Rattle.call.specs.declared.Form.the-variants.{Plain, Cached, Counted}
 use Rattle.call.specs.declared.ScoreMode.{ScoreMode}
 use Rattle.call.specs.declared.ScoreMode.the-variants.{NoScores, Mode}
-use Rattle.call.specs.declared.Verdict.{Verdict}
 use Rattle.call.specs.declared.Verdict.the-variants.{Accepted}
 use Rattle.call.specs.Tensors.{Inputs, Outputs}
 use Rattle.call.specs.Limits.{totalOf}
@@ -32,16 +31,10 @@ use Rattle.call.proofs.Facts.{limits→facts}
 use Rattle.attention.specs.Elements.{keyHeadOf, keyAt, valueAt}
 use Rattle.attention.specs.Admission.{admits}
 use Rattle.attention.specs.Formula.{dotScore, maskedScore, attentionWeight, attentionOutput, shownScore}
-use Rattle.attention.specs.Outcomes.{whereCached, presentKeyTensor, presentValueTensor, whereShown, scoresTensor, outputTensor, workRow, Outcome, acceptedOf, outcomeWhere, attentionOf}
+use Rattle.attention.specs.Outcomes.{whereCached, presentKeyTensor, presentValueTensor, whereShown, scoresTensor, outputTensor, workRow, Outcome, acceptedOf, attentionOf}
+use Rattle.attention.proofs.Outcome.{accepted-outcome}
 use Rattle.attention.proofs.Facts.{key-head-lt, key-bounded, value-bounded}
 use Rattle.attention.proofs.Bounded.{MaskFits, admits→live, dot-score-bounded, admitted-finite}
-
--- ---- the outcome of an accepted call
-
--- the outcome of an accepted call looks at the tensors that are read alone
-pub accepted-outcome : (c : Call) (x : Inputs) (y : Outputs) → verdictOf c x y ≡ Accepted → attentionOf c x y ≡ acceptedOf c x
-unfolding attentionOf outcomeWhere
-accepted-outcome c x y e = ap (λ (v : Verdict). outcomeWhere v c x y) e
 
 -- two calls that differ only in the tensors lent for writing, both accepted, have the same outcome
 pub outputs-independent : (c : Call) (x : Inputs) (y y' : Outputs) → verdictOf c x y ≡ Accepted → verdictOf c x y' ≡ Accepted → attentionOf c x y ≡ attentionOf c x y'

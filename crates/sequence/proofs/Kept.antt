@@ -8,12 +8,12 @@ use native.Mathlib.Nat.{mul-zero, zero-mul, not-suc-le-zero}
 use Rattle.call.specs.declared.Call.{Call}
 use Rattle.attention.specs.Outcomes.{acceptedOf}
 use Rattle.sequence.specs.Positions.{Position, keyCache, valueCache}
-use Rattle.sequence.specs.Chunks.{Chunk, State, start, chunkOutcome, nextState, stateAfter, positionsOf, entered, joined, historyNext, historyAfter}
+use Rattle.sequence.specs.Chunks.{Chunk, State, start, chunkCall, chunkInputs, chunkOutcome, nextState, stateAfter, positionsOf, entered, joined, historyNext, historyAfter}
 use Rattle.sequence.proofs.Places.{stateOf, AllGood, length-joined}
 use Rattle.sequence.proofs.Plain.{PlainGood}
 use Rattle.sequence.proofs.Refusing.{state-stays}
 use Rattle.sequence.proofs.Step.{empty, key-cache-length, value-cache-length, entered→plain, entered-outcome, other-outcome}
-use Rattle.sequence.proofs.Outputs.{chunk-present-keys, chunk-present-values}
+use Rattle.sequence.proofs.Outputs.{chunk-answer, chunk-present-keys, chunk-present-values}
 
 pub record Kept (s : Call) (st : State) (book : List Position) : Type 0 where
   pub state : st ≡ stateOf s book
@@ -47,9 +47,11 @@ module _ (s : Call) (st : State) (book : List Position) (r : Chunk) where
 module _ (s : Call) (book : List Position) (r : Chunk) where
   -- after an entered chunk the state is the caches of the longer history
   pub state-entered : entered s (stateOf s book) book r ≡ true → next s (stateOf s book) r ≡ stateOf s (book ++ positionsOf s r)
-  unfolding chunkOutcome acceptedOf
+  unfolding chunkOutcome
   state-entered e =
+      let o = acceptedOf (chunkCall s (length book) r) (chunkInputs (stateOf s book) r) in
       ap (λ o. nextState (o .answer) (stateOf s book) (o .tensors)) (entered-outcome s book r e)
+      ∙ ap (λ a. nextState a (stateOf s book) (o .tensors)) (chunk-answer s book r)
       ∙ (λ i. record { past = sym (length-joined s r book) i; key = chunk-present-keys s book r i; value = chunk-present-values s book r i })
 
   state-other : AllGood s book → entered s (stateOf s book) book r ≡ false → next s (stateOf s book) r ≡ stateOf s book

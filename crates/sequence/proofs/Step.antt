@@ -19,7 +19,8 @@ use Rattle.call.proofs.Clear.{no-live, no-bytes, no-cells}
 use Rattle.call.proofs.Accepted.{Accepts, verdict→accepts, accepts→verdict}
 use Rattle.call.proofs.Facts.{groups-same, settings-same, shape-without-mask, fit→lengths}
 use Rattle.attention.specs.Elements.{cellAt}
-use Rattle.attention.specs.Outcomes.{acceptedOf, outcomeWhere, attentionOf}
+use Rattle.attention.specs.Outcomes.{acceptedOf, attentionOf}
+use Rattle.attention.proofs.Outcome.{accepted-outcome, refused-outcome}
 use Rattle.sequence.specs.Positions.{Position, positionOf, plainCall, keyCache, valueCache}
 use Rattle.sequence.specs.Chunks.{Chunk, lengthOf, chunkCall, chunkInputs, chunkOutcome, positionsOf, plainAccepted, entered}
 use Rattle.sequence.specs.Demand.{isDone}
@@ -135,17 +136,17 @@ module _ (s : Call) (book : List Position) (r : Chunk) where
   -- an entered chunk is accepted
   pub entered-outcome : entered s (stateOf s book) book r ≡ true
       → chunkOutcome s (stateOf s book) r ≡ acceptedOf (chunkCall s (length book) r) (chunkInputs (stateOf s book) r)
-  unfolding chunkOutcome attentionOf outcomeWhere
+  unfolding chunkOutcome
   entered-outcome e =
       let p = entered→parts e in
       let c = chunkCall s (length book) r in
       let x = chunkInputs (stateOf s book) r in
-      ap (λ v. outcomeWhere v c x (r .lent)) (accepts→verdict c x (r .lent) (plain→accepts (p .0) (p .1) (p .2)))
+      accepted-outcome c x (r .lent) (accepts→verdict c x (r .lent) (plain→accepts (p .0) (p .1) (p .2)))
 
   -- any other chunk is refused: its answer is not done, and every lent tensor is as before
   pub other-outcome : AllGood s book → entered s (stateOf s book) book r ≡ false
       → (isDone (chunkOutcome s (stateOf s book) r .answer) ≡ false) × (chunkOutcome s (stateOf s book) r .tensors ≡ r .lent)
-  unfolding chunkOutcome attentionOf outcomeWhere
+  unfolding chunkOutcome
   other-outcome good e = go (verdictOf c x (r .lent)) refl
     where
       c : Call
@@ -154,12 +155,11 @@ module _ (s : Call) (book : List Position) (r : Chunk) where
       x : Inputs
       x = chunkInputs (stateOf s book) r
 
-      go : (v : Verdict) → verdictOf c x (r .lent) ≡ v → (isDone (outcomeWhere (verdictOf c x (r .lent)) c x (r .lent) .answer) ≡ false) × (outcomeWhere (verdictOf c x (r .lent)) c x (r .lent) .tensors ≡ r .lent)
+      go : (v : Verdict) → verdictOf c x (r .lent) ≡ v → (isDone (attentionOf c x (r .lent) .answer) ≡ false) × (attentionOf c x (r .lent) .tensors ≡ r .lent)
       go Accepted p =
           let a = verdict→accepts c x (r .lent) p in
           let t : entered s (stateOf s book) book r ≡ true = fits→entered (a .inputs) (a .outputs) (accepts→plain good a) in
           absurd (let z : _≡_ {A = ℕ} 0 1 = cc in omega arith)
-      go (Refused a) p = (
-        ap (λ v. isDone (outcomeWhere v c x (r .lent) .answer)) p ∙ refused-not-done c x (r .lent) a p,
-        ap (λ v. outcomeWhere v c x (r .lent) .tensors) p,
-      )
+      go (Refused a) p =
+          let o = refused-outcome c x (r .lent) a p in
+          (ap (λ o. isDone (o .answer)) o ∙ refused-not-done c x (r .lent) a p, ap (λ o. o .tensors) o)

@@ -4,21 +4,19 @@ use mathlib.Core.List.{List, [], _∷_, _++_}
 use mathlib.Core.Bool.{Bool, true, false}
 use Prim.Native.Nat.{ℕ, _+_, _≤_, _<_}
 use native.Mathlib.Omega.{arith}
-use lib.Ieee.{nan}
 use lib.ListN.{length, length-append}
-use Rattle.tensor_laws.proofs.Cells.{getD-tensorOf}
 use Rattle.call.specs.declared.Call.{Call}
 use Rattle.call.specs.declared.Answer.the-variants.{Done}
 use Rattle.attention.specs.Elements.{cellAt}
 use Rattle.attention.specs.Formula.{attentionOutput}
-use Rattle.attention.specs.Outcomes.{acceptedOf, outputTensor}
+use Rattle.attention.proofs.Outcome.{accepted-output}
 use Rattle.sequence.specs.Positions.{Position, positionOf, plainCall, plainInputs}
 use Rattle.sequence.specs.Chunks.{Chunk, State, start, lengthOf, chunkCall, chunkInputs, chunkOutcome, stateAfter, positionsOf, entered, historyNext, historyAfter}
 use Rattle.sequence.specs.Demand.{isDone, ChunkHolds, Demand3}
 use Rattle.sequence.proofs.Plain.{good→plain}
 use Rattle.sequence.proofs.Places.{stateOf, AllGood, length-joined, position-old}
 use Rattle.sequence.proofs.Step.{entered→plain, entered-outcome, other-outcome}
-use Rattle.sequence.proofs.Outputs.{chunk-none-masked, chunk-row}
+use Rattle.sequence.proofs.Outputs.{chunk-answer, chunk-row}
 use Rattle.sequence.proofs.Kept.{Kept, next, history-entered, kept-start, kept-after, history-extends, history-append}
 
 module _ (s : Call) (book : List Position) (r : Chunk) where
@@ -27,23 +25,19 @@ module _ (s : Call) (book : List Position) (r : Chunk) where
   done-entered good = go (entered s (stateOf s book) book r) refl
     where
       go : (t : Bool) → entered s (stateOf s book) book r ≡ t → isDone (chunkOutcome s (stateOf s book) r .answer) ≡ entered s (stateOf s book) book r
-      go true e = ap (λ o. isDone (o .answer)) (entered-outcome s book r e) ∙ done ∙ sym e
-        where
-          done : isDone (acceptedOf (chunkCall s (length book) r) (chunkInputs (stateOf s book) r) .answer) ≡ true
-          done = unfold acceptedOf in refl
+      go true e = ap (λ o. isDone (o .answer)) (entered-outcome s book r e) ∙ ap isDone (chunk-answer s book r) ∙ sym e
       go false e = other-outcome s book r good e .0 ∙ sym e
 
   answer-entered : entered s (stateOf s book) book r ≡ true → chunkOutcome s (stateOf s book) r .answer ≡ Done (length (historyNext s (stateOf s book) book r)) 0
-  unfolding acceptedOf
   answer-entered e =
       ap (λ o. o .answer) (entered-outcome s book r e)
-      ∙ (λ i. Done (sym (ap length (history-entered s (stateOf s book) book r e) ∙ length-joined s r book) i) (chunk-none-masked s book r i))
+      ∙ chunk-answer s book r
+      ∙ ap (λ n. Done n 0) (sym (ap length (history-entered s (stateOf s book) book r e) ∙ length-joined s r book))
 
   row-entered : (whole later : List Position) → whole ≡ historyNext s (stateOf s book) book r ++ later → entered s (stateOf s book) book r ≡ true
       → (b h i k : ℕ) → b < s .batches → h < s .qheads → i < lengthOf r → k < s .vsize
       → cellAt (chunkOutcome s (stateOf s book) r .tensors .output) (s .rank) (s .qheads) (lengthOf r) (s .vsize) b h i k
       ≡ attentionOutput (plainCall s whole) (plainInputs s whole) b h (length book + i) k
-  unfolding acceptedOf outputTensor
   row-entered whole later w e b h i k hb hh hi hk =
       let c = chunkCall s (length book) r in
       let x = chunkInputs (stateOf s book) r in
@@ -52,7 +46,7 @@ module _ (s : Call) (book : List Position) (r : Chunk) where
       let n = length-joined s r book in
       let long : length book + lengthOf r ≤ length whole = let m = ap length begins ∙ length-append ps later in omega arith in
       ap (λ o. cellAt (o .tensors .output) (s .rank) (s .qheads) (lengthOf r) (s .vsize) b h i k) (entered-outcome s book r e)
-      ∙ getD-tensorOf (s .rank) (s .batches) (s .qheads) (lengthOf r) (s .vsize) (attentionOutput c x) b h i k nan hb hh hi hk
+      ∙ accepted-output c x b h i k hb hh hi hk
       ∙ chunk-row s book r (entered→plain s book r e) whole long
       (λ j l. ap (λ q. positionOf q j) begins ∙ position-old ps later j (omega arith))
       b h i k hb hh hi hk
