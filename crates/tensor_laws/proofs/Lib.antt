@@ -2,3 +2,5 @@ pub mod Slots
 pub mod Tabulate
 pub mod Cells
 pub mod InPlace
+pub mod Parts
+pub mod Written
