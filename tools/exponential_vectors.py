@@ -1,8 +1,14 @@
 """Exact reference for the house exponential E(d), which approximates e^-d in f32.
 
-    python3 tools/exponential_vectors.py tables     the power and scale tables as Rust arrays of bit patterns
-    python3 tools/exponential_vectors.py expected   the text a compiled program must print, byte for byte
-    python3 tools/exponential_vectors.py error      the largest relative error of E against e^-d that walks of its range meet
+    python3 tools/exponential_vectors.py lines   both tables, and E at the edges, over two walks of its range and over a row
+    python3 tools/exponential_vectors.py error   the largest relative error of E against e^-d that walks of its range meet
+
+The differential tests hold the library and the C reference to the lines, which are
+
+    power F BITS            entry F of the power table
+    scale D BITS            the default scale of head size D
+    exp BITS BITS           d and E(d), or - where it has no value
+    row BITS BITS BITS      the largest score of a row, a score of it, and what the row form writes in its place
 
 A value is a pair (mantissa, exponent) of whole numbers that stands for
 mantissa * 2^exponent. No value the kernel meets is below zero, so the mantissa
@@ -18,7 +24,6 @@ LOWEST_EXPONENT = -149
 
 INFINITY = 0x7F800000
 MINUS_ZERO = 0x80000000
-NO_VALUE = 0xFFFFFFFF
 
 EDGES = """
 00000000 80000000 00000001 80000001 007fffff 00800000 80800000 33800000 3b000000
@@ -151,9 +156,9 @@ def steps(y):
 
 
 def exponential(bits):
-    """The bit pattern of E(d), or NO_VALUE, for the d with these bits."""
+    """The bit pattern of E(d) for the d with these bits, None where it has no value."""
     if bits > INFINITY and bits != MINUS_ZERO:  # NaN or below 0
-        return NO_VALUE
+        return None
     if bits == INFINITY:
         return 0
     y = base_two(bits)
@@ -170,7 +175,7 @@ def exponential(bits):
 
 
 def row_code(bits, largest):
-    """The bit pattern that the row form writes for the element with these bits: of E(largest - s), and 0 for +0 where there is no value."""
+    """The bits that the row form writes for the element with these bits: E(largest - s), and +0 where that has no value."""
     exact = exact_difference(from_bits(largest), from_bits(bits))
     if exact[0] < 0:
         return 0
@@ -209,47 +214,17 @@ def walk_last():
     return list(range(0x42800000, 0x42A65AF7, 37))
 
 
-def print_array(name, values):
-    print(f"const {name}: [u32; {len(values)}] = [")
-    for start in range(0, len(values), 8):
-        line = ", ".join(f"0x{to_bits(*value):08x}" for value in values[start:start + 8])
-        print(f"    {line},")
-    print("];")
-
-
-def print_walk(name, walk):
-    print(name)
-    digest = 0
-    for i, bits in enumerate(walk):
+def lines():
+    for f, value in enumerate(POWERS):
+        print(f"power {f} {to_bits(*value):08x}")
+    for dimension, value in enumerate(SCALES, 1):
+        print(f"scale {dimension} {to_bits(*value):08x}")
+    for bits in [int(word, 16) for word in EDGES.split()] + walk_all() + walk_range():
         code = exponential(bits)
-        digest = (digest * 1000003 + code) % 4294967291
-        if i % 2048 == 0:
-            print(f"{bits:08x} {code:08x}")
-    print(f"digest {digest:08x}")
-
-
-def print_row(name, row, largest):
-    print(name)
-    for bits in row:
-        print(f"{row_code(bits, largest):08x}")
-
-
-def tables():
-    print_array("POWERS", POWERS)
-    print_array("SCALES", SCALES)
-
-
-def expected():
-    for name, values in ("powers", POWERS), ("scales", SCALES):
-        print(name)
-        for value in values:
-            print(f"{to_bits(*value):08x}")
-    print("edges")
-    for bits in (int(word, 16) for word in EDGES.split()):
-        print(f"{bits:08x} {exponential(bits):08x}")
-    print_walk("all", walk_all())
-    print_walk("range", walk_range())
-    print_row("row", [i * 0x00080000 + 0x4000003F for i in range(64)], 0x41A0003F)
+        print(f"exp {bits:08x} {'-' if code is None else f'{code:08x}'}")
+    largest = 0x41A0003F
+    for bits in range(0x4000003F, 0x4200003F, 0x00080000):
+        print(f"row {largest:08x} {bits:08x} {row_code(bits, largest):08x}")
 
 
 def error():
@@ -271,7 +246,7 @@ def error():
 
 
 if __name__ == "__main__":
-    commands = {"tables": tables, "expected": expected, "error": error}
+    commands = {"lines": lines, "error": error}
     if len(sys.argv) != 2 or sys.argv[1] not in commands:
         sys.exit(__doc__)
     check()

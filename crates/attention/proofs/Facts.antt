@@ -4,7 +4,7 @@ use mathlib.Core.List.{List}
 use Prim.Native.Nat.{ℕ, _+_, _-_, _*_, _/_, _%_, _≤_, _<_, zero-le}
 use native.Mathlib.Nat.{le-refl, div-lt-iff-lt-mul, div-add-mod', mul-comm}
 use native.Mathlib.Omega.{arith}
-use mathlib.Core.Bool.{Bool, true, false, not}
+use mathlib.Core.Bool.{Bool, true, false, not, cond}
 use lib.IntN.{ℤ, pos, negsuc}
 use lib.Arith.{digits-div}
 use lib.Dec.{T, ltb, ltb→lt, nltb→le, lt→ltb, eqb→eq}
@@ -17,7 +17,7 @@ use Rattle.tensor_laws.specs.Layout.{slot, batchAt, positionAt}
 use Rattle.tensor_laws.proofs.Slots.{batch-slot, position-slot, left-factor-pos}
 use Rattle.tensor_laws.proofs.Cells.{index-lt}
 use Rattle.exponential.specs.declared.DefaultScale.{DefaultScale}
-use Rattle.exponential.specs.ExpNeg.{plusZero, one, pickFloat}
+use Rattle.exponential.specs.ExpNeg.{plusZero, one}
 use Rattle.exponential.specs.Scale.{defaultScaleOf}
 use Rattle.exponential.proofs.Scale.{default-scale-bounds}
 use Rattle.softmax.specs.Lists.{elementOf}
@@ -117,7 +117,7 @@ module _ {c : Call} {x : Inputs} {y : Outputs} (a : Accepts c x y) where
           (rw q (index-lt (c .rank) (c .batches) (c .kvheads) (c .klen) size b g s k hb hg hs hk))
           (looked c (x .live) size b g s k hg hs hk (omega arith))
 
-      go : (t : Bool) → (T t → j < c .past) → (T (not t) → c .past ≤ j) → T (bounded elementBound (pickFloat t (cellAt past 4 (c .kvheads) (c .past) size b g j k) (cellAt incoming (c .rank) (c .kvheads) (c .klen) size b g (j - c .past) k)))
+      go : (t : Bool) → (T t → j < c .past) → (T (not t) → c .past ≤ j) → T (bounded elementBound (cond t (cellAt past 4 (c .kvheads) (c .past) size b g j k) (cellAt incoming (c .rank) (c .kvheads) (c .klen) size b g (j - c .past) k)))
       go true f g = before (f tt)
       go false f g = from (g tt)
 

@@ -7,3 +7,4 @@ pub mod Facts
 pub mod Bounded
 pub mod Weights
 pub mod Lengths
+pub mod Counting

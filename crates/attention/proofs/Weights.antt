@@ -2,7 +2,7 @@
 use mathlib.Core.Path.{_≡_, refl, sym, _∙_, subst}
 use Prim.Native.Nat.{ℕ, zero, suc, _-_, _*_, _^_, _≤_, _<_}
 use native.Mathlib.Omega.{arith}
-use mathlib.Core.Bool.{Bool, true, false, not}
+use mathlib.Core.Bool.{Bool, true, false, not, cond}
 use lib.Dec.{T, ltb, ltb→lt, lit≤}
 use lib.ListN.{getD}
 use lib.Ieee.{Float, binary32, round, sub, le, isNan}
@@ -10,7 +10,7 @@ use lib.Ieee.Scale.{finite}
 use Rattle.float_laws.proofs.Order.{plus-finite, finite-not-nan}
 use Rattle.tensor_laws.specs.Layout.{tensorOf}
 use Rattle.tensor_laws.proofs.Cells.{every-tabulate, every-cell}
-use Rattle.exponential.specs.ExpNeg.{plusZero, pickFloat}
+use Rattle.exponential.specs.ExpNeg.{plusZero}
 use Rattle.exponential.proofs.Laws.{InUnit, hasValue}
 use Rattle.softmax.specs.Row.{largest, largestOf}
 use Rattle.softmax.specs.Lists.{hidden}
@@ -139,12 +139,12 @@ module _ (c : Call) (x : Inputs) (y : Outputs) (accepted : verdictOf c x y ≡ A
   shown-known : (m : ℕ) (b h i j : ℕ) → b < c .batches → h < c .qheads → i < c .qlen → j < totalOf c → Known (shownScore m c x b h i j)
   shown-known zero b h i j hb hh hi hj = go (ltb j (liveOf c (x .live) b)) (ltb→lt j (liveOf c (x .live) b))
     where
-      go : (t : Bool) → (T t → j < liveOf c (x .live) b) → Known (pickFloat t (dotScore c x b h i j) plusZero)
+      go : (t : Bool) → (T t → j < liveOf c (x .live) b) → Known (cond t (dotScore c x b h i j) plusZero)
       go true l = bounded-known scoreBound (dotScore c x b h i j) tt (dot-score-bounded a b h i hb hh hi j (l tt))
       go false l = zero-known
   shown-known (suc m) b h i j hb hh hi hj = later m
     where
-      masked : (t : Bool) → admits c x b h i j ≡ t → Known (pickFloat t (maskedScore c x b h i j) hidden)
+      masked : (t : Bool) → admits c x b h i j ≡ t → Known (cond t (maskedScore c x b h i j) hidden)
       masked true e = finite-not-nan (maskedScore c x b h i j) (admitted-finite a b h i hb hh hi fit j e)
       masked false e = unfold isNan in tt
 

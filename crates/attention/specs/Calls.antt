@@ -12,8 +12,8 @@ use Rattle.call.specs.declared.MaskKind.{MaskKind}
 use Rattle.call.specs.declared.Scale.the-variants.{Given}
 use Rattle.call.specs.declared.ScoreMode.{ScoreMode}
 use Rattle.call.specs.declared.Answer.the-variants.{Done}
-use Rattle.call.specs.Tensors.{Inputs, Outputs}
-use Rattle.attention.specs.Outcomes.{Outcome}
+use Rattle.call.specs.Tensors.{Inputs, Outputs, inputsOf, outputsOf}
+use Rattle.attention.specs.Outcomes.{Outcome, outcomeOf}
 
 -- a whole number from 0 to 255, as a float: m * 2 ^ k
 abbrev pub number : ℕ → ℕ → Float
@@ -44,38 +44,14 @@ small form mask mode causal past qlen klen = record {
 
 -- Q, K, V, and the boolean mask
 abbrev pub lending : (query key value : List Float) → List ℕ → Inputs
-lending query key value mask = record {
-  query = query;
-  key = key;
-  value = value;
-  boolMask = mask;
-  floatMask = [];
-  pastKey = [];
-  pastValue = [];
-  live = [];
-}
+lending query key value mask = inputsOf query key value mask [] [] [] []
 
 -- the same with past caches, and no mask
 abbrev pub lendingPast : (query key value pastKey pastValue : List Float) → Inputs
-lendingPast query key value pastKey pastValue = record {
-  query = query;
-  key = key;
-  value = value;
-  boolMask = [];
-  floatMask = [];
-  pastKey = pastKey;
-  pastValue = pastValue;
-  live = [];
-}
+lendingPast query key value pastKey pastValue = inputsOf query key value [] [] pastKey pastValue []
 
 abbrev pub tensors : (output presentKey presentValue scores work : List Float) → Outputs
-tensors output presentKey presentValue scores work = record {
-  output = output;
-  presentKey = presentKey;
-  presentValue = presentValue;
-  scores = scores;
-  work = work;
-}
+tensors = outputsOf
 
 -- n zeros, to be written over
 abbrev pub zeros : ℕ → List Float
@@ -83,4 +59,4 @@ zeros n = replicate n plusZero
 
 -- done, with T, the number of fully masked rows and the tensors
 abbrev pub done : (total masked : ℕ) → Outputs → Outcome
-done total masked y = record { answer = Done total masked; tensors = y }
+done total masked y = outcomeOf (Done total masked) y

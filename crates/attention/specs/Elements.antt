@@ -1,10 +1,10 @@
 -- Where an element stands: the rows of Q, K and V in either rank, the past and incoming rows of a position, and the key head of a query head. Definitions only.
+use mathlib.Core.Bool.{cond}
 use mathlib.Core.List.{List}
 use Prim.Native.Nat.{ℕ, _+_, _-_, _*_, _/_}
 use lib.Dec.{ltb}
 use lib.Ieee.{Float}
 use Rattle.tensor_laws.specs.Layout.{slot}
-use Rattle.exponential.specs.ExpNeg.{pickFloat}
 use Rattle.softmax.specs.Lists.{elementOf}
 use Rattle.call.specs.declared.Call.{Call}
 use Rattle.call.specs.Tensors.{Inputs}
@@ -23,7 +23,7 @@ queryAt c x b h i k = cellAt (x .query) (c .rank) (c .qheads) (c .qlen) (c .size
 -- element k of position j's row, for key head g: in the past cache, which is always of rank 4, below P, and in the incoming tensor at j - P from there on
 abbrev pub positionCell : Call → (past incoming : List Float) → (size : ℕ) → (b g j k : ℕ) → Float
 positionCell c past incoming size b g j k =
-    pickFloat (ltb j (c .past)) (cellAt past 4 (c .kvheads) (c .past) size b g j k)
+    cond (ltb j (c .past)) (cellAt past 4 (c .kvheads) (c .past) size b g j k)
     (cellAt incoming (c .rank) (c .kvheads) (c .klen) size b g (j - c .past) k)
 
 abbrev pub keyAt : Call → Inputs → (b g j k : ℕ) → Float

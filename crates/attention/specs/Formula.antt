@@ -1,11 +1,11 @@
 -- The scores, weights and outputs of every row, by the row formula of the layer below. Definitions only.
 use Prim.Native.Nat.{ℕ, zero, suc}
-use mathlib.Core.Bool.{Bool}
+use mathlib.Core.Bool.{Bool, cond}
 use lib.Dec.{ltb}
 use lib.Ieee.{Float, binary32, add}
 use Rattle.exponential.specs.declared.DefaultScale.{DefaultScale}
 use Rattle.exponential.specs.declared.DefaultScale.the-variants.{Scale as DefaultIs, NoScale}
-use Rattle.exponential.specs.ExpNeg.{plusZero, pickFloat}
+use Rattle.exponential.specs.ExpNeg.{plusZero}
 use Rattle.exponential.specs.Scale.{defaultScaleOf}
 use Rattle.softmax.specs.Row.{scoreOf, fullyMaskedOf, weightOf, rowOutputOf}
 use Rattle.softmax.specs.Lists.{hidden}
@@ -70,7 +70,7 @@ rowMasked c x b h i = fullyMaskedOf (totalOf c) (admits c x b h i) (maskedScore 
 
 -- mode 0 shows s of step 1, and +0 at padded positions; modes 1 and 2 the scores after step 2, and minus infinity where not admitted; mode 3 the weights, +0 where not admitted
 abbrev pub shownScore : ℕ → Call → Inputs → (b h i j : ℕ) → Float
-shownScore zero c x b h i j = pickFloat (ltb j (liveOf c (x .live) b)) (dotScore c x b h i j) plusZero
-shownScore (suc zero) c x b h i j = pickFloat (admits c x b h i j) (maskedScore c x b h i j) hidden
-shownScore (suc (suc zero)) c x b h i j = pickFloat (admits c x b h i j) (maskedScore c x b h i j) hidden
+shownScore zero c x b h i j = cond (ltb j (liveOf c (x .live) b)) (dotScore c x b h i j) plusZero
+shownScore (suc zero) c x b h i j = cond (admits c x b h i j) (maskedScore c x b h i j) hidden
+shownScore (suc (suc zero)) c x b h i j = cond (admits c x b h i j) (maskedScore c x b h i j) hidden
 shownScore (suc (suc (suc m))) c x b h i j = attentionWeight c x b h i j

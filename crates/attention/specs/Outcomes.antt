@@ -77,6 +77,9 @@ pub record Outcome : Type 0 where
   pub answer : Answer
   pub tensors : Outputs
 
+abbrev pub outcomeOf : Answer → Outputs → Outcome
+outcomeOf answer tensors = record { answer = answer; tensors = tensors }
+
 unfoldable pub acceptedOf : Call → Inputs → Outcome
 unfolding maskedRowsOf outputTensor presentKeyTensor presentValueTensor scoresTensor workRow
 acceptedOf c x = record {

@@ -1,4 +1,4 @@
--- A call is accepted exactly where none of the nine refusals applies. Assumes nothing.
+-- A call is accepted exactly where none of the nine refusals applies, and each link of their chain where none of its own does. Assumes nothing.
 use mathlib.Core.Path.{_≡_, refl, ap, _∙_}
 use Prim.Native.Nat.{ℕ}
 use native.Mathlib.Omega.{arith}
@@ -49,19 +49,41 @@ none : (f : Found) (answer : ℕ → Answer) → whereFound f answer ≡ Accepte
 none nothing answer e = refl
 none (at i) answer e = absurd (not-refused (answer i) e)
 
+-- ---- each link
+
+pub record→held : (c : Call) → recordVerdict c ≡ Accepted → (limitsHold c ≡ true) × (groupsHold c ≡ true) × (settingsHold c ≡ true) × (maskShapeHolds c ≡ true)
+unfolding recordVerdict
+record→held c e =
+    let p = both (unless (limitsHold c) Limits) (unless (groupsHold c) HeadGroups then unless (settingsHold c) Settings then unless (maskShapeHolds c) MaskShape) e in
+    let q = both (unless (groupsHold c) HeadGroups) (unless (settingsHold c) Settings then unless (maskShapeHolds c) MaskShape) (p .1) in
+    let r = both (unless (settingsHold c) Settings) (unless (maskShapeHolds c) MaskShape) (q .1) in
+    (held (limitsHold c) Limits (p .0), held (groupsHold c) HeadGroups (q .0), held (settingsHold c) Settings (r .0), held (maskShapeHolds c) MaskShape (r .1))
+
+pub lengths→held : (c : Call) (x : Inputs) (y : Outputs) → lengthsVerdict c x y ≡ Accepted → (inputsFit c x ≡ true) × (outputsFit c y ≡ true)
+unfolding lengthsVerdict
+lengths→held c x y e =
+    let p = both (unless (inputsFit c x) InputLength) (unless (outputsFit c y) OutputLength) e in
+    (held (inputsFit c x) InputLength (p .0), held (outputsFit c y) OutputLength (p .1))
+
+pub cells→none : (c : Call) (x : Inputs) → cellsVerdict c x ≡ Accepted → (liveFault c (x .live) ≡ nothing) × (byteMaskFault (x .boolMask) ≡ nothing) × (floatMaskFault (x .floatMask) ≡ nothing)
+unfolding cellsVerdict
+cells→none c x e =
+    let cells = whereFound (floatMaskFault (x .floatMask)) MaskCell in
+    let p = both (whereFound (liveFault c (x .live)) LiveCount) (whereFound (byteMaskFault (x .boolMask)) MaskCell then cells) e in
+    let q = both (whereFound (byteMaskFault (x .boolMask)) MaskCell) cells (p .1) in
+    (none (liveFault c (x .live)) LiveCount (p .0), none (byteMaskFault (x .boolMask)) MaskCell (q .0), none (floatMaskFault (x .floatMask)) MaskCell (q .1))
+
+-- ---- all nine
+
 pub verdict→accepts : (c : Call) (x : Inputs) (y : Outputs) → verdictOf c x y ≡ Accepted → Accepts c x y
 unfolding verdictOf
 verdict→accepts c x y e =
     let p = both (recordVerdict c) (lengthsVerdict c x y then cellsVerdict c x then elementsVerdict c x) e in
     let q = both (lengthsVerdict c x y) (cellsVerdict c x then elementsVerdict c x) (p .1) in
     let r = both (cellsVerdict c x) (elementsVerdict c x) (q .1) in
-    let p1 = both (unless (limitsHold c) Limits) (unless (groupsHold c) HeadGroups then unless (settingsHold c) Settings then unless (maskShapeHolds c) MaskShape) (p .0) in
-    let p2 = both (unless (groupsHold c) HeadGroups) (unless (settingsHold c) Settings then unless (maskShapeHolds c) MaskShape) (p1 .1) in
-    let p3 = both (unless (settingsHold c) Settings) (unless (maskShapeHolds c) MaskShape) (p2 .1) in
-    let q1 = both (unless (inputsFit c x) InputLength) (unless (outputsFit c y) OutputLength) (q .0) in
-    let cells = whereFound (floatMaskFault (x .floatMask)) MaskCell in
-    let r1 = both (whereFound (liveFault c (x .live)) LiveCount) (whereFound (byteMaskFault (x .boolMask)) MaskCell then cells) (r .0) in
-    let r2 = both (whereFound (byteMaskFault (x .boolMask)) MaskCell) cells (r1 .1) in
+    let h = record→held c (p .0) in
+    let l = lengths→held c x y (q .0) in
+    let n = cells→none c x (r .0) in
     let v4 = whereFound (incomingFault c (x .live) (c .vsize) (x .value)) (Element 4) in
     let v3 = whereFound (tensorFault (x .pastValue)) (Element 3) in
     let v2 = whereFound (incomingFault c (x .live) (c .size) (x .key)) (Element 2) in
@@ -71,15 +93,15 @@ verdict→accepts c x y e =
     let s3 = both v2 (v3 then v4) (s2 .1) in
     let s4 = both v3 v4 (s3 .1) in
     record {
-      limits = held (limitsHold c) Limits (p1 .0);
-      groups = held (groupsHold c) HeadGroups (p2 .0);
-      settings = held (settingsHold c) Settings (p3 .0);
-      maskShape = held (maskShapeHolds c) MaskShape (p3 .1);
-      inputs = held (inputsFit c x) InputLength (q1 .0);
-      outputs = held (outputsFit c y) OutputLength (q1 .1);
-      live = none (liveFault c (x .live)) LiveCount (r1 .0);
-      bytes = none (byteMaskFault (x .boolMask)) MaskCell (r2 .0);
-      cells = none (floatMaskFault (x .floatMask)) MaskCell (r2 .1);
+      limits = h .0;
+      groups = h .1;
+      settings = h .2;
+      maskShape = h .3;
+      inputs = l .0;
+      outputs = l .1;
+      live = n .0;
+      bytes = n .1;
+      cells = n .2;
       query = none (tensorFault (x .query)) (Element 0) (s1 .0);
       pastKey = none (tensorFault (x .pastKey)) (Element 1) (s2 .0);
       key = none (incomingFault c (x .live) (c .size) (x .key)) (Element 2) (s3 .0);

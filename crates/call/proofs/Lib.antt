@@ -4,3 +4,4 @@ pub mod Accepted
 pub mod Facts
 pub mod Edges
 pub mod Lowest
+pub mod MaskBounds

@@ -21,7 +21,7 @@ use Rattle.call.specs.Lengths.{inputsFit, outputsFit}
 use Rattle.call.specs.Contents.{Found, nothing, at, countFault, liveFault, byteFault, cellFault, byteMaskFault, floatMaskFault, elementFault, tensorFault, lookedAt, incomingFault}
 use Rattle.call.specs.Refusals.{unless, whereFound, _then_, verdictOf}
 use Rattle.call.proofs.Search.{First, found→first}
-use Rattle.call.proofs.Clear.{TensorClear, bytes→clear, tensor→clear, incoming→clear}
+use Rattle.call.proofs.Clear.{TensorClear, TensorFirst, bytes→clear, tensor→clear, tensor→first, incoming→clear}
 use Rattle.call.proofs.Accepted.{verdict→accepts}
 
 -- ---- which numbers apply
@@ -61,11 +61,7 @@ applies n c x y = getD (numbers c x y) n false
 
 -- ---- where the fault is
 
--- i is the first index at fault
-abbrev pub TensorFirst : List Float → ℕ → Type 0
-TensorFirst t i = First (λ k z. elementFault z) nan t 0 i
-
--- the same of K or V, of whose elements those that are looked at count
+-- in K or V the elements that are looked at count
 abbrev pub IncomingClear : Call → Inputs → ℕ → List Float → Type 0
 IncomingClear c x size t = (k : ℕ) → k < length t → (lookedAt c (x .live) size k && elementFault (getD t k nan)) ≡ false
 
@@ -218,10 +214,6 @@ refused-not-zero c x y a e z = true≢false (sym (lowest-given c x y a e .0) ∙
 -- ---- the first index at fault
 
 module _ (c : Call) (x : Inputs) where
-  tensor-first : (t : List Float) (i : ℕ) → tensorFault t ≡ at i → TensorFirst t i
-  unfolding tensorFault
-  tensor-first t i e = found→first (λ k z. elementFault z) nan t i e
-
   incoming-first : (size : ℕ) (t : List Float) (i : ℕ) → incomingFault c (x .live) size t ≡ at i → IncomingFirst c x size t i
   unfolding incomingFault
   incoming-first size t i e = found→first (λ k z. lookedAt c (x .live) size k && elementFault z) nan t i e
@@ -238,10 +230,10 @@ module _ (c : Call) (x : Inputs) where
   found→place (LiveCount i) f = found→first (λ k n. countFault (totalOf c) n) (pos 0) (x .live) i f
   found→place (MaskCell i) (inl f) = inl (found→first (λ k n. byteFault n) 0 (x .boolMask) i f)
   found→place (MaskCell i) (inr f) = inr (bytes→clear (x .boolMask) (f .0), found→first (λ k z. cellFault z) nan (x .floatMask) i (f .1))
-  found→place (Element zero i) f = tensor-first (x .query) i f
-  found→place (Element (suc zero) i) f = (tensor→clear (x .query) (f .0), tensor-first (x .pastKey) i (f .1))
+  found→place (Element zero i) f = tensor→first (x .query) i f
+  found→place (Element (suc zero) i) f = (tensor→clear (x .query) (f .0), tensor→first (x .pastKey) i (f .1))
   found→place (Element (suc (suc zero)) i) f = (tensor→clear (x .query) (f .0), tensor→clear (x .pastKey) (f .1), incoming-first (c .size) (x .key) i (f .2))
-  found→place (Element (suc (suc (suc zero))) i) f = (tensor→clear (x .query) (f .0), tensor→clear (x .pastKey) (f .1), incoming→clear c (x .live) (c .size) (x .key) (f .2), tensor-first (x .pastValue) i (f .3))
+  found→place (Element (suc (suc (suc zero))) i) f = (tensor→clear (x .query) (f .0), tensor→clear (x .pastKey) (f .1), incoming→clear c (x .live) (c .size) (x .key) (f .2), tensor→first (x .pastValue) i (f .3))
   found→place (Element (suc (suc (suc (suc zero)))) i) f = (tensor→clear (x .query) (f .0), tensor→clear (x .pastKey) (f .1), incoming→clear c (x .live) (c .size) (x .key) (f .2), tensor→clear (x .pastValue) (f .3), incoming-first (c .vsize) (x .value) i (f .4))
   found→place (Element (suc (suc (suc (suc (suc t))))) i) f = f
 

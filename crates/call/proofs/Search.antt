@@ -1,22 +1,22 @@
--- A search finds nothing exactly where no element is at fault, and otherwise the first index at fault. Assumes nothing.
+-- A search finds nothing exactly where no element is at fault, and otherwise the first index at fault; where two searches agree on every element of a list, they find the same. Assumes nothing.
 use mathlib.Core.Path.{_≡_, refl, sym, ap, _∙_, subst}
 use mathlib.Core.List.{List, [], _∷_}
-use mathlib.Core.Bool.{Bool, true, false}
+use mathlib.Core.Bool.{Bool, true, false, true≢false, cond}
 use Prim.Native.Nat.{ℕ, zero, suc, _+_, _<_, suc-le-suc}
-use native.Mathlib.Nat.{not-suc-le-zero, le-of-suc-le-suc, add-zero, zero-add, add-suc, suc-add, zero-lt-suc}
+use native.Mathlib.Nat.{lt-of-not-le, le-antisymm, not-suc-le-zero, le-of-suc-le-suc, add-zero, zero-add, add-suc, suc-add, zero-lt-suc}
 use native.Mathlib.Omega.{arith}
 use lib.ListN.{length, getD}
-use Rattle.call.specs.Contents.{Found, nothing, at, pickFound, firstFrom, firstFault}
+use Rattle.call.specs.Contents.{Found, nothing, at, firstFrom, firstFault}
 
 no-index : (i : ℕ) → at i ≡ nothing → ⊥
 no-index i e = let z : _≡_ {A = ℕ} 0 1 = cc in omega arith
 
-passed : (b : Bool) (i : ℕ) (later : Found) → pickFound b (at i) later ≡ nothing → (b ≡ false) × (later ≡ nothing)
+passed : (b : Bool) (i : ℕ) (later : Found) → cond b (at i) later ≡ nothing → (b ≡ false) × (later ≡ nothing)
 passed true i later e = absurd (no-index i e)
 passed false i later e = (refl, e)
 
 -- what was found: here, or later
-either : (b : Bool) (i k : ℕ) (later : Found) → pickFound b (at i) later ≡ at k → (P : Type 0) → (b ≡ true → i ≡ k → P) → (b ≡ false → later ≡ at k → P) → P
+either : (b : Bool) (i k : ℕ) (later : Found) → cond b (at i) later ≡ at k → (P : Type 0) → (b ≡ true → i ≡ k → P) → (b ≡ false → later ≡ at k → P) → P
 either true i k later e P here there = here refl (cc)
 either false i k later e P here there = there refl e
 
@@ -34,7 +34,7 @@ module _ {A : Type 0} (fault : ℕ → A → Bool) (d : A) where
   unfolding firstFrom
   from-clear [] i h = refl
   from-clear (x ∷ xs) i h =
-      ap (λ (b : Bool). pickFound b (at i) (firstFrom fault (suc i) xs)) (subst (λ (n : ℕ). fault n x ≡ false) (add-zero i) (h 0 (zero-lt-suc (length xs))))
+      ap (λ (b : Bool). cond b (at i) (firstFrom fault (suc i) xs)) (subst (λ (n : ℕ). fault n x ≡ false) (add-zero i) (h 0 (zero-lt-suc (length xs))))
       ∙ from-clear xs (suc i) (λ k l. subst (λ (n : ℕ). fault n (getD xs k d) ≡ false) (sym (suc-add i k ∙ sym (add-suc i k))) (h (suc k) (suc-le-suc l)))
 
   -- nothing is found exactly where no element is at fault
@@ -74,3 +74,30 @@ module _ {A : Type 0} (fault : ℕ → A → Bool) (d : A) where
   pub found→first : (xs : List A) (n : ℕ) → firstFault fault xs ≡ at n → First xs 0 n
   unfolding firstFault
   found→first xs n e = let r = first-from xs 0 n e in subst (λ (k : ℕ). First xs 0 k) (sym (r .1 ∙ zero-add (r .0))) (r .2)
+
+  -- where an element is at fault and none before it, its index is found
+  pub first→found : (xs : List A) (n : ℕ) → n < length xs → fault n (getD xs n d) ≡ true → ((k : ℕ) → k < n → fault k (getD xs k d) ≡ false) → firstFault fault xs ≡ at n
+  first→found xs n h f b = by-found (firstFault fault xs) refl
+    where
+      by-found : (r : Found) → firstFault fault xs ≡ r → firstFault fault xs ≡ at n
+      by-found nothing e = absurd (true≢false (sym f ∙ nothing→clear xs e n h))
+      by-found (at m) e = e ∙ ap at (same (found→first xs m e))
+        where
+          same : First xs 0 m → m ≡ n
+          same p =
+              le-antisymm
+              (le-of-suc-le-suc (lt-of-not-le (λ g. true≢false (sym f ∙ ap (λ (k : ℕ). fault k (getD xs n d)) (sym (zero-add n)) ∙ p .before n g))))
+              (le-of-suc-le-suc (lt-of-not-le (λ l. true≢false (sym (p .faulty) ∙ ap (λ (k : ℕ). fault k (getD xs m d)) (zero-add m) ∙ b m l))))
+
+-- searches that agree on every element of a list
+module _ {A : Type 0} (f g : ℕ → A → Bool) (d : A) where
+  from-same : (xs : List A) (i : ℕ) → ((k : ℕ) → k < length xs → f (i + k) (getD xs k d) ≡ g (i + k) (getD xs k d)) → firstFrom f i xs ≡ firstFrom g i xs
+  unfolding firstFrom
+  from-same [] i h = refl
+  from-same (x ∷ xs) i h =
+      λ j. cond (subst (λ (n : ℕ). f n x ≡ g n x) (add-zero i) (h 0 (zero-lt-suc (length xs))) j) (at i)
+      (from-same xs (suc i) (λ k l. subst (λ (n : ℕ). f n (getD xs k d) ≡ g n (getD xs k d)) (sym (suc-add i k ∙ sym (add-suc i k))) (h (suc k) (suc-le-suc l))) j)
+
+  pub fault-same : (xs : List A) → ((k : ℕ) → k < length xs → f k (getD xs k d) ≡ g k (getD xs k d)) → firstFault f xs ≡ firstFault g xs
+  unfolding firstFault
+  fault-same xs h = from-same xs 0 (λ k l. subst (λ (n : ℕ). f n (getD xs k d) ≡ g n (getD xs k d)) (sym (zero-add k)) (h k l))

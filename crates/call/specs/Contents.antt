@@ -1,7 +1,7 @@
 -- Refusals 7 to 9: the live counts, the mask's cells and the elements, each searched from its start. Definitions only.
 use mathlib.Core.List.{List, [], _∷_}
 use Prim.Native.Nat.{ℕ, suc, _+_, _/_}
-use mathlib.Core.Bool.{Bool, true, false, not, _&&_}
+use mathlib.Core.Bool.{Bool, true, false, not, _&&_, cond}
 use lib.IntN.{ℤ, pos, negsuc}
 use lib.Dec.{ltb}
 use lib.ListN.{getD}
@@ -19,14 +19,10 @@ pub data Found : Type 0 where
   nothing : Found
   at : ℕ → Found
 
-abbrev pub pickFound : Bool → Found → Found → Found
-pickFound true x y = x
-pickFound false x y = y
-
 -- the first index, counted from i, whose element is at fault
 unfoldable pub firstFrom : {A : Type 0} → (ℕ → A → Bool) → ℕ → List A → Found
 firstFrom fault i [] = nothing
-firstFrom fault i (x ∷ xs) = let later = firstFrom fault (suc i) xs in pickFound (fault i x) (at i) later
+firstFrom fault i (x ∷ xs) = let later = firstFrom fault (suc i) xs in cond (fault i x) (at i) later
 
 -- the first index whose element is at fault
 unfoldable pub firstFault : {A : Type 0} → (ℕ → A → Bool) → List A → Found

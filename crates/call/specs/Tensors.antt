@@ -22,3 +22,24 @@ pub record Outputs : Type 0 where
   pub presentValue : List Float
   pub scores : List Float
   pub work : List Float
+
+abbrev pub inputsOf : (query key value : List Float) → (boolMask : List ℕ) → (floatMask pastKey pastValue : List Float) → (live : List ℤ) → Inputs
+inputsOf query key value boolMask floatMask pastKey pastValue live = record {
+  query = query;
+  key = key;
+  value = value;
+  boolMask = boolMask;
+  floatMask = floatMask;
+  pastKey = pastKey;
+  pastValue = pastValue;
+  live = live;
+}
+
+abbrev pub outputsOf : (output presentKey presentValue scores work : List Float) → Outputs
+outputsOf output presentKey presentValue scores work = record {
+  output = output;
+  presentKey = presentKey;
+  presentValue = presentValue;
+  scores = scores;
+  work = work;
+}

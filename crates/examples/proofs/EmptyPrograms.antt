@@ -16,8 +16,7 @@ use Rattle.attention.specs.Elements.{cellAt}
 use Rattle.attention.specs.Formula.{attentionOutput}
 use Rattle.attention.specs.Outcomes.{attentionOf}
 use Rattle.sequence.specs.Positions.{plainCall, plainInputs}
-use Rattle.sequence.specs.Chunks.{start, historyAfter}
-use Rattle.sequence.specs.Demand.{isDone}
+use Rattle.sequence.specs.Chunks.{start, historyAfter, isDone}
 use Rattle.attention.specs.Calls.{small}
 use Rattle.attention.specs.Table.{inputsA, lentA, inputsB, lentB, callC, callE, inputsE, lentE}
 use Rattle.examples.specs.TwoChunks.{firstChunk, secondChunk}

@@ -1,5 +1,5 @@
 -- Tiny random calls, accepted and refused: the definition of the call gives them the outcomes of a reference written from the rules. Floats are f32 bits.
--- Made by `python3 tools/attention_reference.py vectors`. Assumes nothing.
+-- Made by `python3 tools/vectors.py vectors`. Assumes nothing.
 use mathlib.Core.Path.{refl}
 use mathlib.Core.List.{List, [], _∷_}
 use Prim.Native.Nat.{ℕ}

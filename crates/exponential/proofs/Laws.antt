@@ -4,7 +4,7 @@ use mathlib.Core.Logic.{inl, inr}
 use mathlib.Core.List.{List, [], _∷_, map}
 use Prim.Native.Nat.{ℕ, zero, suc, _<_}
 use native.Mathlib.Nat.{not-suc-le-zero, le-of-suc-le-suc}
-use mathlib.Core.Bool.{Bool, true, false, not, _||_}
+use mathlib.Core.Bool.{Bool, true, false, not, _||_, cond}
 use lib.Dec.{T}
 use lib.ListN.{length, getD, length-map}
 use lib.Ieee.{Float, nan, inf, fin, binary32, sub, mul, le, lt, isNan, fits}
@@ -15,7 +15,7 @@ use Rattle.float_laws.proofs.Order.{plus, plus-finite, finite-not-nan, le-of-no
 use Rattle.float_laws.proofs.Product.{mul-mono, mul-not-nan}
 use Rattle.exponential.specs.declared.Exponential.{Exponential}
 use Rattle.exponential.specs.declared.Exponential.the-variants.{Value, NoValue}
-use Rattle.exponential.specs.ExpNeg.{plusZero, one, limit, log2e, inRange, belowLimitOf, scaledOf, pickFloat, pickExponential, expNegOf, valueOrZero, expNegRowOf}
+use Rattle.exponential.specs.ExpNeg.{plusZero, one, limit, log2e, inRange, belowLimitOf, scaledOf, expNegOf, valueOrZero, expNegRowOf}
 use Rattle.exponential.proofs.Whole.{minusZero, in-range}
 use Rattle.exponential.proofs.Bounds.{below-limit-within}
 
@@ -62,11 +62,11 @@ below-limit-in-unit y t h =
 
 pub scaled-at-limit : (y : Float) → T (le limit y) → scaledOf y ≡ plusZero
 unfolding scaledOf
-scaled-at-limit y h = ap (λ (b : Bool). pickFloat b plusZero (belowLimitOf y)) (is-true (le limit y) h)
+scaled-at-limit y h = ap (λ (b : Bool). cond b plusZero (belowLimitOf y)) (is-true (le limit y) h)
 
 pub scaled-below : (y : Float) → T (not (le limit y)) → scaledOf y ≡ belowLimitOf y
 unfolding scaledOf
-scaled-below y h = ap (λ (b : Bool). pickFloat b plusZero (belowLimitOf y)) (is-false (le limit y) h)
+scaled-below y h = ap (λ (b : Bool). cond b plusZero (belowLimitOf y)) (is-false (le limit y) h)
 
 scaled-in-unit : (d : Float) → T (not (isNan d)) → T (not (lt d plusZero)) → InUnit (scaledOf (mul binary32 d log2e))
 scaled-in-unit d n h = go (le limit y) (scaled-at-limit y) (scaled-below y) (in-range-below d n h)
@@ -89,11 +89,11 @@ neither false false t = (tt, tt)
 
 pub value-where : (d : Float) → T (hasValue d) → expNegOf d ≡ Value (scaledOf (mul binary32 d log2e))
 unfolding expNegOf
-value-where d h = ap (λ (b : Bool). pickExponential b NoValue (Value (scaledOf (mul binary32 d log2e)))) (is-false (isNan d || lt d plusZero) h)
+value-where d h = ap (λ (b : Bool). cond b NoValue (Value (scaledOf (mul binary32 d log2e)))) (is-false (isNan d || lt d plusZero) h)
 
 pub no-value-where : (d : Float) → T (isNan d || lt d plusZero) → expNegOf d ≡ NoValue
 unfolding expNegOf
-no-value-where d h = ap (λ (b : Bool). pickExponential b NoValue (Value (scaledOf (mul binary32 d log2e)))) (is-true (isNan d || lt d plusZero) h)
+no-value-where d h = ap (λ (b : Bool). cond b NoValue (Value (scaledOf (mul binary32 d log2e)))) (is-true (isNan d || lt d plusZero) h)
 
 -- where E has a value, it is a number from 0 to 1, and never -0
 pub value-in-unit : (d : Float) → T (hasValue d) → (x : Float) × (expNegOf d ≡ Value x) × InUnit x

@@ -5,7 +5,7 @@ use Prim.Native.Nat.{ℕ, suc, _+_, _-_, _*_, _/_, _%_, _^_, _≤_, _<_}
 use native.Mathlib.Nat.{le-antisymm, le-trans, lt-trans, lt-of-le-of-lt, lt-of-not-le, not-le-of-lt, mul-le-mul, mul-le-mul-right, le-of-eq, le-of-suc-le-suc}
 use native.Mathlib.Decide.{decLe}
 use native.Mathlib.Omega.{arith}
-use mathlib.Core.Bool.{Bool, false, not, _&&_}
+use mathlib.Core.Bool.{Bool, false, not, _&&_, cond}
 use lib.Dec.{T, leb, ltb, leb→le, le→leb, ltb→lt, not-T}
 use lib.Pow.{pow-add, pow-mono, pow-lt}
 use lib.ListN.{getD}
@@ -15,7 +15,7 @@ use lib.Ieee.Fits.{and-i, and-l, and-r}
 use lib.Ieee.Bits.{is-true, is-false}
 use Rattle.exponential.specs.declared.DefaultScale.the-variants.{Scale, NoScale}
 use Rattle.exponential.specs.ExpNeg.{plusZero, one}
-use Rattle.exponential.specs.Scale.{ScaleRule, scaleBits, defaultScaleOf, pickScale}
+use Rattle.exponential.specs.Scale.{ScaleRule, scaleBits, defaultScaleOf}
 use Rattle.exponential.proofs.Every.{every, at, isFraction, fraction→value, three, four}
 
 -- ---- the test: the bits of a scale stand for m * 2 ^ -x
@@ -128,13 +128,13 @@ scale-only D m x n y a b p q =
 pub scale-where : (D : ℕ) → 1 ≤ D → D ≤ 256 → defaultScaleOf D ≡ Scale (ofBits binary32 (getD scaleBits (D - 1) 0))
 unfolding defaultScaleOf
 scale-where D a b =
-    ap (λ (t : Bool). pickScale t (Scale (ofBits binary32 (getD scaleBits (D - 1) 0))))
+    ap (λ (t : Bool). cond t (Scale (ofBits binary32 (getD scaleBits (D - 1) 0))) NoScale)
     (is-true (leb 1 D && leb D 256) (and-i (leb 1 D) (leb D 256) (le→leb 1 D a) (le→leb D 256 b)))
 
 pub no-scale-where : (D : ℕ) → (D < 1) ⊎ (256 < D) → defaultScaleOf D ≡ NoScale
 unfolding defaultScaleOf
 no-scale-where D h =
-    ap (λ (t : Bool). pickScale t (Scale (ofBits binary32 (getD scaleBits (D - 1) 0))))
+    ap (λ (t : Bool). cond t (Scale (ofBits binary32 (getD scaleBits (D - 1) 0))) NoScale)
     (is-false (leb 1 D && leb D 256) (not-T (leb 1 D && leb D 256) (λ t. outside h (leb→le 1 D (and-l (leb 1 D) (leb D 256) t)) (leb→le D 256 (and-r (leb 1 D) (leb D 256) t)))))
   where
     outside : (D < 1) ⊎ (256 < D) → 1 ≤ D → D ≤ 256 → ⊥

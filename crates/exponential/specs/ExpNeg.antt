@@ -1,7 +1,7 @@
 -- The house exponential E(d), which is near e ^ -d, for a d that is not below 0. Each step is one f32 operation, in the order written. Definitions only.
 use mathlib.Core.List.{List, map}
 use Prim.Native.Nat.{ℕ, _*_, _/_, _%_}
-use mathlib.Core.Bool.{Bool, true, false, _||_, _&&_}
+use mathlib.Core.Bool.{Bool, false, _||_, _&&_, cond}
 use lib.IntN.{pos}
 use lib.Ieee.{Float, nan, inf, fin, binary32, up, down, minus, sub, mul, div, le, lt, isNan, ofInt, ofBits}
 use Rattle.exponential.specs.declared.Exponential.{Exponential}
@@ -59,23 +59,15 @@ unfolding mul powerOf polyOf restOf
 belowLimitOf y =
     mul binary32 (mul binary32 (powerOf (wholePartOf y % 256)) (polyOf (restOf y))) (halved (wholePartOf y / 256))
 
-abbrev pub pickFloat : Bool → Float → Float → Float
-pickFloat true x y = x
-pickFloat false x y = y
-
 -- E by y = d * LOG2E: +0 from 120 on
 unfoldable pub scaledOf : Float → Float
 unfolding belowLimitOf le
-scaledOf y = pickFloat (le limit y) plusZero (belowLimitOf y)
-
-abbrev pub pickExponential : Bool → Exponential → Exponential → Exponential
-pickExponential true x y = x
-pickExponential false x y = y
+scaledOf y = cond (le limit y) plusZero (belowLimitOf y)
 
 -- E(d), and no value exactly where d is below 0 or not a number
 unfoldable pub expNegOf : Float → Exponential
 unfolding isNan lt mul log2e scaledOf
-expNegOf d = pickExponential (isNan d || lt d plusZero) NoValue (Value (scaledOf (mul binary32 d log2e)))
+expNegOf d = cond (isNan d || lt d plusZero) NoValue (Value (scaledOf (mul binary32 d log2e)))
 
 -- ---- over a row
 

@@ -2,7 +2,7 @@
 -- `PowerRule` is the table's rule; that each entry obeys it, and that no other number does, is proved in proofs/Power.antt. Definitions only.
 use mathlib.Core.List.{List, [], _∷_}
 use Prim.Native.Nat.{ℕ, _+_, _-_, _*_, _^_, _≤_, _<_}
-use mathlib.Core.Bool.{Bool, true, false}
+use mathlib.Core.Bool.{cond}
 use lib.Dec.{ltb}
 use lib.ListN.{getD}
 use lib.Ieee.{Float, binary32, ofBits}
@@ -56,11 +56,6 @@ unfoldable pub powerOf : ℕ → Float
 unfolding powerBits
 powerOf f = ofBits binary32 (getD powerBits f 0)
 
--- the entry of an index below 256, and none of any other
-abbrev pub pickPower : Bool → PowerEntry → PowerEntry
-pickPower true x = x
-pickPower false x = NoEntry
-
 unfoldable pub powerEntryOf : ℕ → PowerEntry
 unfolding powerOf
-powerEntryOf f = pickPower (ltb f 256) (Entry (powerOf f))
+powerEntryOf f = cond (ltb f 256) (Entry (powerOf f)) NoEntry

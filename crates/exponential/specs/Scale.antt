@@ -2,7 +2,7 @@
 -- `ScaleRule` is the table's rule; that each entry obeys it, and that no other number does, is proved in proofs/Scale.antt. Definitions only.
 use mathlib.Core.List.{List, [], _∷_}
 use Prim.Native.Nat.{ℕ, _+_, _-_, _*_, _^_, _≤_, _<_}
-use mathlib.Core.Bool.{Bool, true, false, _&&_}
+use mathlib.Core.Bool.{_&&_, cond}
 use lib.Dec.{leb}
 use lib.ListN.{getD}
 use lib.Ieee.{binary32, ofBits}
@@ -51,11 +51,6 @@ scaleBits =
     0x3d83ec5c ∷ 0x3d83a682 ∷ 0x3d836117 ∷ 0x3d831c1a ∷ 0x3d82d788 ∷ 0x3d829362 ∷ 0x3d824fa6 ∷ 0x3d820c52 ∷
     0x3d81c967 ∷ 0x3d8186e2 ∷ 0x3d8144c4 ∷ 0x3d81030a ∷ 0x3d80c1b4 ∷ 0x3d8080c1 ∷ 0x3d804030 ∷ 0x3d800000 ∷ []
 
--- the scale of a head size from 1 to 256, and none of any other
-abbrev pub pickScale : Bool → DefaultScale → DefaultScale
-pickScale true x = x
-pickScale false x = NoScale
-
 unfoldable pub defaultScaleOf : ℕ → DefaultScale
 unfolding scaleBits
-defaultScaleOf D = pickScale (leb 1 D && leb D 256) (Scale (ofBits binary32 (getD scaleBits (D - 1) 0)))
+defaultScaleOf D = cond (leb 1 D && leb D 256) (Scale (ofBits binary32 (getD scaleBits (D - 1) 0))) NoScale

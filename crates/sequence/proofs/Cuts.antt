@@ -9,8 +9,7 @@ use Rattle.call.specs.declared.Call.{Call}
 use Rattle.call.specs.Lengths.{inputsFit, outputsFit}
 use Rattle.call.proofs.Facts.{groups-same, settings-same, fit→lengths, lengths→fit}
 use Rattle.sequence.specs.Positions.{Position, plainCall}
-use Rattle.sequence.specs.Chunks.{Chunk, start, lengthOf, chunkCall, chunkInputs, chunkOutcome, positionsOf, plainAccepted, entered}
-use Rattle.sequence.specs.Demand.{isDone}
+use Rattle.sequence.specs.Chunks.{Chunk, start, lengthOf, chunkCall, chunkInputs, chunkOutcome, positionsOf, plainAccepted, entered, isDone}
 use Rattle.sequence.specs.Cuts.{cachesFor, fitsAfter, allFit, allPositions, allAccepted, CutHolds}
 use Rattle.sequence.proofs.Places.{stateOf, AllGood, good-before, length-joined}
 use Rattle.sequence.proofs.Plain.{split, both, PlainGood, plain→good, good→plain}
@@ -19,70 +18,70 @@ use Rattle.sequence.proofs.Kept.{next, state-entered, kept-start}
 use Rattle.sequence.proofs.Theorem.{done-entered}
 
 -- the plain call over the positions that a list begins with is accepted where that over all is and there is one at least
-plain-before : (s : Call) (book ps : List Position) → 1 ≤ length book → PlainGood s (book ++ ps) → PlainGood s book
-plain-before s book ps some p =
-    let n = length-append book ps in
+plain-before : (s : Call) (history ps : List Position) → 1 ≤ length history → PlainGood s (history ++ ps) → PlainGood s history
+plain-before s history ps some p =
+    let n = length-append history ps in
     record {
       limited = record { dimensions = p .limited .dimensions; some = some; total = omega arith };
-      groups = groups-same (plainCall s book) (plainCall s (book ++ ps)) refl refl ∙ p .groups;
-      settings = settings-same (plainCall s book) (plainCall s (book ++ ps)) refl refl refl refl ∙ p .settings;
-      good = good-before s book ps (p .good);
+      groups = groups-same (plainCall s history) (plainCall s (history ++ ps)) refl refl ∙ p .groups;
+      settings = settings-same (plainCall s history) (plainCall s (history ++ ps)) refl refl refl refl ∙ p .settings;
+      good = good-before s history ps (p .good);
     }
 
 -- a chunk that has the right lengths on caches of the right lengths has them on the caches of a history
-caches-fit : (s : Call) (book : List Position) (r : Chunk)
-    → inputsFit (chunkCall s (length book) r) (chunkInputs (cachesFor s (length book)) r) ≡ true → inputsFit (chunkCall s (length book) r) (chunkInputs (stateOf s book) r) ≡ true
-caches-fit s book r e =
-    let c = chunkCall s (length book) r in
-    let l = fit→lengths c (chunkInputs (cachesFor s (length book)) r) e in
-    lengths→fit c (chunkInputs (stateOf s book) r)
+caches-fit : (s : Call) (history : List Position) (r : Chunk)
+    → inputsFit (chunkCall s (length history) r) (chunkInputs (cachesFor s (length history)) r) ≡ true → inputsFit (chunkCall s (length history) r) (chunkInputs (stateOf s history) r) ≡ true
+caches-fit s history r e =
+    let c = chunkCall s (length history) r in
+    let l = fit→lengths c (chunkInputs (cachesFor s (length history)) r) e in
+    lengths→fit c (chunkInputs (stateOf s history) r)
     (record {
       query = l .query;
       key = l .key;
       value = l .value;
       boolMask = l .boolMask;
       floatMask = l .floatMask;
-      pastKey = key-cache-length s book;
-      pastValue = value-cache-length s book;
+      pastKey = key-cache-length s history;
+      pastValue = value-cache-length s history;
       live = l .live;
     })
 
 -- a chunk that fits after a history is entered where the plain call over the history and it is accepted
-fits-entered : (s : Call) (book : List Position) (r : Chunk) → fitsAfter s (length book) r ≡ true → PlainGood s (book ++ positionsOf s r) → entered s (stateOf s book) book r ≡ true
+fits-entered : (s : Call) (history : List Position) (r : Chunk) → fitsAfter s (length history) r ≡ true → PlainGood s (history ++ positionsOf s r) → entered s (stateOf s history) history r ≡ true
 unfolding fitsAfter
-fits-entered s book r e p =
-    let f = split (inputsFit (chunkCall s (length book) r) (chunkInputs (cachesFor s (length book)) r)) (outputsFit (chunkCall s (length book) r) (r .lent)) e in
-    fits→entered s book r (caches-fit s book r (f .0)) (f .1) p
+fits-entered s history r e p =
+    let f = split (inputsFit (chunkCall s (length history) r) (chunkInputs (cachesFor s (length history)) r)) (outputsFit (chunkCall s (length history) r) (r .lent)) e in
+    fits→entered s history r (caches-fit s history r (f .0)) (f .1) p
 
 -- after a history, chunks that fit are all accepted where the plain call over the history and all their positions is
-plain→all : (s : Call) (book : List Position) (rs : List Chunk) → AllGood s book → allFit s (length book) rs ≡ true → PlainGood s (book ++ allPositions s rs) → allAccepted s (stateOf s book) rs ≡ true
+plain→all : (s : Call) (history : List Position) (rs : List Chunk) → AllGood s history → allFit s (length history) rs ≡ true → PlainGood s (history ++ allPositions s rs) → allAccepted s (stateOf s history) rs ≡ true
 unfolding allFit allPositions allAccepted
-plain→all s book [] good fit p = refl
-plain→all s book (r ∷ rs) good fit p =
-    let f = split (fitsAfter s (length book) r) (allFit s (length book + lengthOf r) rs) fit in
-    let n = length-joined s r book in
-    let w : PlainGood s (book ++ positionsOf s r ++ allPositions s rs) = subst (PlainGood s) (sym (append-assoc book (positionsOf s r) (allPositions s rs))) p in
-    let q = plain-before s (book ++ positionsOf s r) (allPositions s rs) (omega arith) w in
-    let e = fits-entered s book r (f .0) q in
-    let rest = plain→all s (book ++ positionsOf s r) rs (q .good) (subst (λ m. allFit s m rs ≡ true) (sym n) (f .1)) w in
-    both (done-entered s book r good ∙ e) (subst (λ st. allAccepted s st rs ≡ true) (sym (state-entered s book r e)) rest)
+plain→all s history [] good fit p = refl
+plain→all s history (r ∷ rs) good fit p =
+    let f = split (fitsAfter s (length history) r) (allFit s (length history + lengthOf r) rs) fit in
+    let n = length-joined s r history in
+    let w : PlainGood s (history ++ positionsOf s r ++ allPositions s rs) = subst (PlainGood s) (sym (append-assoc history (positionsOf s r) (allPositions s rs))) p in
+    let q = plain-before s (history ++ positionsOf s r) (allPositions s rs) (omega arith) w in
+    let e = fits-entered s history r (f .0) q in
+    let rest = plain→all s (history ++ positionsOf s r) rs (q .good) (subst (λ m. allFit s m rs ≡ true) (sym n) (f .1)) w in
+    both (done-entered s history r good ∙ e) (subst (λ st. allAccepted s st rs ≡ true) (sym (state-entered s history r e)) rest)
 
 -- where all chunks after a history are accepted, the plain call over the history and the first is, and the others are on its caches
-first-accepted : (s : Call) (book : List Position) (r : Chunk) (rs : List Chunk) → AllGood s book → allAccepted s (stateOf s book) (r ∷ rs) ≡ true
-    → PlainGood s (book ++ positionsOf s r) × (allAccepted s (stateOf s (book ++ positionsOf s r)) rs ≡ true)
+first-accepted : (s : Call) (history : List Position) (r : Chunk) (rs : List Chunk) → AllGood s history → allAccepted s (stateOf s history) (r ∷ rs) ≡ true
+    → PlainGood s (history ++ positionsOf s r) × (allAccepted s (stateOf s (history ++ positionsOf s r)) rs ≡ true)
 unfolding allAccepted
-first-accepted s book r rs good a =
-    let f = split (isDone (chunkOutcome s (stateOf s book) r .answer)) (allAccepted s (next s (stateOf s book) r) rs) a in
-    let e = sym (done-entered s book r good) ∙ f .0 in
-    (entered→plain s book r e, subst (λ st. allAccepted s st rs ≡ true) (state-entered s book r e) (f .1))
+first-accepted s history r rs good a =
+    let f = split (isDone (chunkOutcome s (stateOf s history) r .answer)) (allAccepted s (next s (stateOf s history) r) rs) a in
+    let e = sym (done-entered s history r good) ∙ f .0 in
+    (entered→plain s history r e, subst (λ st. allAccepted s st rs ≡ true) (state-entered s history r e) (f .1))
 
 -- after an accepted history, the plain call over the history and all positions of chunks is accepted where all of them are
-all→plain : (s : Call) (book : List Position) (rs : List Chunk) → PlainGood s book → allAccepted s (stateOf s book) rs ≡ true → PlainGood s (book ++ allPositions s rs)
+all→plain : (s : Call) (history : List Position) (rs : List Chunk) → PlainGood s history → allAccepted s (stateOf s history) rs ≡ true → PlainGood s (history ++ allPositions s rs)
 unfolding allPositions
-all→plain s book [] p a = subst (PlainGood s) (sym (append-nil book)) p
-all→plain s book (r ∷ rs) p a =
-    let f = first-accepted s book r rs (p .good) a in
-    subst (PlainGood s) (append-assoc book (positionsOf s r) (allPositions s rs)) (all→plain s (book ++ positionsOf s r) rs (f .0) (f .1))
+all→plain s history [] p a = subst (PlainGood s) (sym (append-nil history)) p
+all→plain s history (r ∷ rs) p a =
+    let f = first-accepted s history r rs (p .good) a in
+    subst (PlainGood s) (append-assoc history (positionsOf s r) (allPositions s rs)) (all→plain s (history ++ positionsOf s r) rs (f .0) (f .1))
 
 each-way : (a b : Bool) → (a ≡ true → b ≡ true) → (b ≡ true → a ≡ true) → a ≡ b
 each-way true b f g = sym (f refl)

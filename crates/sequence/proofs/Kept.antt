@@ -15,10 +15,10 @@ use Rattle.sequence.proofs.Refusing.{state-stays}
 use Rattle.sequence.proofs.Step.{empty, key-cache-length, value-cache-length, entered→plain, entered-outcome, other-outcome}
 use Rattle.sequence.proofs.Outputs.{chunk-answer, chunk-present-keys, chunk-present-values}
 
-pub record Kept (s : Call) (st : State) (book : List Position) : Type 0 where
-  pub state : st ≡ stateOf s book
-  pub good : AllGood s book
-  pub plain : 1 ≤ length book → PlainGood s book
+pub record Kept (s : Call) (st : State) (history : List Position) : Type 0 where
+  pub state : st ≡ stateOf s history
+  pub good : AllGood s history
+  pub plain : 1 ≤ length history → PlainGood s history
 
 -- ---- one chunk
 
@@ -27,50 +27,50 @@ abbrev pub next : Call → State → Chunk → State
 unfolding chunkOutcome
 next s st r = nextState (chunkOutcome s st r .answer) st (chunkOutcome s st r .tensors)
 
-module _ (s : Call) (st : State) (book : List Position) (r : Chunk) where
+module _ (s : Call) (st : State) (history : List Position) (r : Chunk) where
   -- an entered chunk's positions are added to the history
-  pub history-entered : entered s st book r ≡ true → historyNext s st book r ≡ book ++ positionsOf s r
+  pub history-entered : entered s st history r ≡ true → historyNext s st history r ≡ history ++ positionsOf s r
   unfolding historyNext
-  history-entered e = ap (λ t. joined t book (positionsOf s r)) e
+  history-entered e = ap (λ t. joined t history (positionsOf s r)) e
 
-  history-other : entered s st book r ≡ false → historyNext s st book r ≡ book
+  history-other : entered s st history r ≡ false → historyNext s st history r ≡ history
   unfolding historyNext
-  history-other e = ap (λ t. joined t book (positionsOf s r)) e
+  history-other e = ap (λ t. joined t history (positionsOf s r)) e
 
-  history-next-extends : (more : List Position) × (historyNext s st book r ≡ book ++ more)
-  history-next-extends = go (entered s st book r) refl
+  history-next-extends : (more : List Position) × (historyNext s st history r ≡ history ++ more)
+  history-next-extends = go (entered s st history r) refl
     where
-      go : (t : Bool) → entered s st book r ≡ t → (more : List Position) × (historyNext s st book r ≡ book ++ more)
+      go : (t : Bool) → entered s st history r ≡ t → (more : List Position) × (historyNext s st history r ≡ history ++ more)
       go true e = (positionsOf s r, history-entered e)
-      go false e = ([], history-other e ∙ sym (append-nil book))
+      go false e = ([], history-other e ∙ sym (append-nil history))
 
-module _ (s : Call) (book : List Position) (r : Chunk) where
+module _ (s : Call) (history : List Position) (r : Chunk) where
   -- after an entered chunk the state is the caches of the longer history
-  pub state-entered : entered s (stateOf s book) book r ≡ true → next s (stateOf s book) r ≡ stateOf s (book ++ positionsOf s r)
+  pub state-entered : entered s (stateOf s history) history r ≡ true → next s (stateOf s history) r ≡ stateOf s (history ++ positionsOf s r)
   unfolding chunkOutcome
   state-entered e =
-      let o = acceptedOf (chunkCall s (length book) r) (chunkInputs (stateOf s book) r) in
-      ap (λ o. nextState (o .answer) (stateOf s book) (o .tensors)) (entered-outcome s book r e)
-      ∙ ap (λ a. nextState a (stateOf s book) (o .tensors)) (chunk-answer s book r)
-      ∙ (λ i. record { past = sym (length-joined s r book) i; key = chunk-present-keys s book r i; value = chunk-present-values s book r i })
+      let o = acceptedOf (chunkCall s (length history) r) (chunkInputs (stateOf s history) r) in
+      ap (λ o. nextState (o .answer) (stateOf s history) (o .tensors)) (entered-outcome s history r e)
+      ∙ ap (λ a. nextState a (stateOf s history) (o .tensors)) (chunk-answer s history r)
+      ∙ (λ i. record { past = sym (length-joined s r history) i; key = chunk-present-keys s history r i; value = chunk-present-values s history r i })
 
-  state-other : AllGood s book → entered s (stateOf s book) book r ≡ false → next s (stateOf s book) r ≡ stateOf s book
+  state-other : AllGood s history → entered s (stateOf s history) history r ≡ false → next s (stateOf s history) r ≡ stateOf s history
   unfolding chunkOutcome
-  state-other good e = state-stays (chunkOutcome s (stateOf s book) r .answer) (stateOf s book) (chunkOutcome s (stateOf s book) r .tensors) (other-outcome s book r good e .0)
+  state-other good e = state-stays (chunkOutcome s (stateOf s history) r .answer) (stateOf s history) (chunkOutcome s (stateOf s history) r .tensors) (other-outcome s history r good e .0)
 
-  kept-by-chunk : AllGood s book → (1 ≤ length book → PlainGood s book) → Kept s (next s (stateOf s book) r) (historyNext s (stateOf s book) book r)
-  kept-by-chunk good plain = go (entered s (stateOf s book) book r) refl
+  kept-by-chunk : AllGood s history → (1 ≤ length history → PlainGood s history) → Kept s (next s (stateOf s history) r) (historyNext s (stateOf s history) history r)
+  kept-by-chunk good plain = go (entered s (stateOf s history) history r) refl
     where
-      go : (t : Bool) → entered s (stateOf s book) book r ≡ t → Kept s (next s (stateOf s book) r) (historyNext s (stateOf s book) book r)
+      go : (t : Bool) → entered s (stateOf s history) history r ≡ t → Kept s (next s (stateOf s history) r) (historyNext s (stateOf s history) history r)
       go true e =
-          subst (λ h. Kept s (next s (stateOf s book) r) h) (sym (history-entered s (stateOf s book) book r e))
-          (record { state = state-entered e; good = entered→plain s book r e .good; plain = λ some. entered→plain s book r e })
+          subst (λ h. Kept s (next s (stateOf s history) r) h) (sym (history-entered s (stateOf s history) history r e))
+          (record { state = state-entered e; good = entered→plain s history r e .good; plain = λ some. entered→plain s history r e })
       go false e =
-          subst (λ h. Kept s (next s (stateOf s book) r) h) (sym (history-other s (stateOf s book) book r e))
+          subst (λ h. Kept s (next s (stateOf s history) r) h) (sym (history-other s (stateOf s history) history r e))
           (record { state = state-other good e; good = good; plain = plain })
 
-kept-next : (s : Call) (st : State) (book : List Position) (r : Chunk) → Kept s st book → Kept s (next s st r) (historyNext s st book r)
-kept-next s st book r k = subst (λ st. Kept s (next s st r) (historyNext s st book r)) (sym (k .state)) (kept-by-chunk s book r (k .good) (k .plain))
+kept-next : (s : Call) (st : State) (history : List Position) (r : Chunk) → Kept s st history → Kept s (next s st r) (historyNext s st history r)
+kept-next s st history r k = subst (λ st. Kept s (next s st r) (historyNext s st history r)) (sym (k .state)) (kept-by-chunk s history r (k .good) (k .plain))
 
 -- ---- a sequence of chunks
 
@@ -90,23 +90,23 @@ kept-start s = record {
     none size = rw (mul-zero, zero-mul)
 
 -- after a sequence
-pub kept-after : (s : Call) (st : State) (book : List Position) (rs : List Chunk) → Kept s st book → Kept s (stateAfter s st rs) (historyAfter s st book rs)
+pub kept-after : (s : Call) (st : State) (history : List Position) (rs : List Chunk) → Kept s st history → Kept s (stateAfter s st rs) (historyAfter s st history rs)
 unfolding stateAfter historyAfter
-kept-after s st book [] k = k
-kept-after s st book (r ∷ rs) k = kept-after s (next s st r) (historyNext s st book r) rs (kept-next s st book r k)
+kept-after s st history [] k = k
+kept-after s st history (r ∷ rs) k = kept-after s (next s st r) (historyNext s st history r) rs (kept-next s st history r k)
 
 -- the history after a sequence begins with that before it
-pub history-extends : (s : Call) (st : State) (book : List Position) (rs : List Chunk) → (later : List Position) × (historyAfter s st book rs ≡ book ++ later)
+pub history-extends : (s : Call) (st : State) (history : List Position) (rs : List Chunk) → (later : List Position) × (historyAfter s st history rs ≡ history ++ later)
 unfolding historyAfter
-history-extends s st book [] = ([], sym (append-nil book))
-history-extends s st book (r ∷ rs) =
-    let rest = history-extends s (next s st r) (historyNext s st book r) rs in
-    let one = history-next-extends s st book r in
-    (one .0 ++ rest .0, rest .1 ∙ ap (λ h. h ++ rest .0) (one .1) ∙ append-assoc book (one .0) (rest .0))
+history-extends s st history [] = ([], sym (append-nil history))
+history-extends s st history (r ∷ rs) =
+    let rest = history-extends s (next s st r) (historyNext s st history r) rs in
+    let one = history-next-extends s st history r in
+    (one .0 ++ rest .0, rest .1 ∙ ap (λ h. h ++ rest .0) (one .1) ∙ append-assoc history (one .0) (rest .0))
 
 -- the history after two sequences is that after the second, from where the first leads
-pub history-append : (s : Call) (st : State) (book : List Position) (before after : List Chunk)
-    → historyAfter s st book (before ++ after) ≡ historyAfter s (stateAfter s st before) (historyAfter s st book before) after
+pub history-append : (s : Call) (st : State) (history : List Position) (before after : List Chunk)
+    → historyAfter s st history (before ++ after) ≡ historyAfter s (stateAfter s st before) (historyAfter s st history before) after
 unfolding stateAfter historyAfter
-history-append s st book [] after = refl
-history-append s st book (r ∷ before) after = history-append s (next s st r) (historyNext s st book r) before after
+history-append s st history [] after = refl
+history-append s st history (r ∷ before) after = history-append s (next s st r) (historyNext s st history r) before after

@@ -1,4 +1,5 @@
 -- A causal call lays out positions where its query, key and value cells are theirs: the plain call over positions does, and a chunk on the caches of a history does. Assumes nothing.
+use mathlib.Core.Bool.{cond}
 use mathlib.Core.Path.{_≡_, sym, ap, _∙_}
 use mathlib.Core.List.{List, _++_}
 use Prim.Native.Nat.{ℕ, _+_, _-_, _<_, zero-le}
@@ -8,7 +9,6 @@ use lib.Dec.{ltb}
 use lib.Ieee.{Float}
 use lib.ListN.{length}
 use borrow.Author.Tests.{lt-ltb, le-ltb}
-use Rattle.exponential.specs.ExpNeg.{pickFloat}
 use Rattle.call.specs.declared.Call.{Call}
 use Rattle.call.specs.declared.Form.{Form}
 use Rattle.call.specs.declared.Form.the-variants.{Plain, Cached}
@@ -32,8 +32,8 @@ pub record Lays (s : Call) (form : Form) (past n : ℕ) (x : Inputs) (ps : List 
 -- ---- the plain call
 
 -- with no past, every row is incoming
-no-past : (j : ℕ) (u : Float) (v : ℕ → Float) → pickFloat (ltb j 0) u (v (j - 0)) ≡ v j
-no-past j u v = ap (λ t. pickFloat t u (v (j - 0))) (le-ltb j 0 zero-le) ∙ ap v (sub-zero j)
+no-past : (j : ℕ) (u : Float) (v : ℕ → Float) → cond (ltb j 0) u (v (j - 0)) ≡ v j
+no-past j u v = ap (λ t. cond t u (v (j - 0))) (le-ltb j 0 zero-le) ∙ ap v (sub-zero j)
 
 -- the plain call over positions lays them out
 pub plain-lays : (s : Call) (ps : List Position) → Lays s Plain 0 (length ps) (plainInputs s ps) ps
@@ -52,47 +52,47 @@ plain-lays s ps =
 -- ---- a chunk
 
 -- below P a row is from the cache, and from P on it is incoming
-old-row : (p j : ℕ) (u v : Float) → j < p → pickFloat (ltb j p) u v ≡ u
-old-row p j u v h = ap (λ t. pickFloat t u v) (lt-ltb j p h)
+old-row : (p j : ℕ) (u v : Float) → j < p → cond (ltb j p) u v ≡ u
+old-row p j u v h = ap (λ t. cond t u v) (lt-ltb j p h)
 
-new-row : (p i : ℕ) (u : Float) (v : ℕ → Float) → pickFloat (ltb (p + i) p) u (v (p + i - p)) ≡ v i
-new-row p i u v = ap (λ t. pickFloat t u (v (p + i - p))) (le-ltb (p + i) p (omega arith)) ∙ ap v (omega arith)
+new-row : (p i : ℕ) (u : Float) (v : ℕ → Float) → cond (ltb (p + i) p) u (v (p + i - p)) ≡ v i
+new-row p i u v = ap (λ t. cond t u (v (p + i - p))) (le-ltb (p + i) p (omega arith)) ∙ ap v (omega arith)
 
 -- a chunk on the caches of a history lays out the history and its positions, and so every list that begins with them
-pub chunk-lays : (s : Call) (book : List Position) (r : Chunk) (ps : List Position)
-    → ((j : ℕ) → j < length book + lengthOf r → positionOf ps j ≡ positionOf (book ++ positionsOf s r) j)
-    → Lays s Cached (length book) (lengthOf r) (chunkInputs (stateOf s book) r) ps
-chunk-lays s book r ps same =
+pub chunk-lays : (s : Call) (history : List Position) (r : Chunk) (ps : List Position)
+    → ((j : ℕ) → j < length history + lengthOf r → positionOf ps j ≡ positionOf (history ++ positionsOf s r) j)
+    → Lays s Cached (length history) (lengthOf r) (chunkInputs (stateOf s history) r) ps
+chunk-lays s history r ps same =
     record {
       query = λ b h i k hb hh l hk. ap (λ p. p .query b h k) (sym (new i l));
       key = λ b g j k hb hg l hk.
           below-or-past p j (λ j. keyAt c x b g j k ≡ positionOf ps j .key b g k)
           (λ m. old-row p j (cellAt (x .pastKey) 4 (s .kvheads) p (s .size) b g j k) (cellAt (r .key) (s .rank) (s .kvheads) n (s .size) b g (j - p) k) m
-          ∙ key-cache-cell s book b g j k hb hg m hk ∙ ap (λ p. p .key b g k) (sym (old j m)))
+          ∙ key-cache-cell s history b g j k hb hg m hk ∙ ap (λ p. p .key b g k) (sym (old j m)))
           (λ i e. new-row p i (cellAt (x .pastKey) 4 (s .kvheads) p (s .size) b g (p + i) k) (λ i. cellAt (r .key) (s .rank) (s .kvheads) n (s .size) b g i k)
           ∙ ap (λ p. p .key b g k) (sym (new i (omega arith))));
       value = λ b g j k hb hg l hk.
           below-or-past p j (λ j. valueAt c x b g j k ≡ positionOf ps j .value b g k)
           (λ m. old-row p j (cellAt (x .pastValue) 4 (s .kvheads) p (s .vsize) b g j k) (cellAt (r .value) (s .rank) (s .kvheads) n (s .vsize) b g (j - p) k) m
-          ∙ value-cache-cell s book b g j k hb hg m hk ∙ ap (λ p. p .value b g k) (sym (old j m)))
+          ∙ value-cache-cell s history b g j k hb hg m hk ∙ ap (λ p. p .value b g k) (sym (old j m)))
           (λ i e. new-row p i (cellAt (x .pastValue) 4 (s .kvheads) p (s .vsize) b g (p + i) k) (λ i. cellAt (r .value) (s .rank) (s .kvheads) n (s .vsize) b g i k)
           ∙ ap (λ p. p .value b g k) (sym (new i (omega arith))));
     }
   where
     p : ℕ
-    p = length book
+    p = length history
 
     n : ℕ
     n = lengthOf r
 
     x : Inputs
-    x = chunkInputs (stateOf s book) r
+    x = chunkInputs (stateOf s history) r
 
     c : Call
     c = causalCall s Cached p n
 
     new : (i : ℕ) → i < n → positionOf ps (p + i) ≡ chunkPosition s r i
-    new i l = same (p + i) (omega arith) ∙ position-new s r book i l
+    new i l = same (p + i) (omega arith) ∙ position-new s r history i l
 
-    old : (j : ℕ) → j < p → positionOf ps j ≡ positionOf book j
-    old j l = same j (omega arith) ∙ position-old book (positionsOf s r) j l
+    old : (j : ℕ) → j < p → positionOf ps j ≡ positionOf history j
+    old j l = same j (omega arith) ∙ position-old history (positionsOf s r) j l

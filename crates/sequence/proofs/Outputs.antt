@@ -53,40 +53,40 @@ row-output s form past n x live ps lays b h i k hb hh hi hk hg =
     ∙ ap (scoreOf (s .size) (λ c. positionOf ps (past + i) .query b h c) (λ c. positionOf ps j .key b g c)) (scale-same c s refl refl))
     (λ j l e. lays .value b g j k hb hg (omega arith) hk)
 
-module _ (s : Call) (book : List Position) (r : Chunk) where
+module _ (s : Call) (history : List Position) (r : Chunk) where
   -- an accepted chunk answers done, the number of positions of the history and it, and no fully masked row
-  pub chunk-answer : acceptedOf (chunkCall s (length book) r) (chunkInputs (stateOf s book) r) .answer ≡ Done (length book + lengthOf r) 0
+  pub chunk-answer : acceptedOf (chunkCall s (length history) r) (chunkInputs (stateOf s history) r) .answer ≡ Done (length history + lengthOf r) 0
   chunk-answer =
-      let c = chunkCall s (length book) r in
-      let x = chunkInputs (stateOf s book) r in
-      accepted-answer c x ∙ ap (Done (length book + lengthOf r)) (causal-none-masked c x refl refl (λ b. refl) (omega arith))
+      let c = chunkCall s (length history) r in
+      let x = chunkInputs (stateOf s history) r in
+      accepted-answer c x ∙ ap (Done (length history + lengthOf r)) (causal-none-masked c x refl refl (λ b. refl) (omega arith))
 
   -- its presents are the caches of the history and its positions
-  pub chunk-present-keys : acceptedOf (chunkCall s (length book) r) (chunkInputs (stateOf s book) r) .tensors .presentKey ≡ keyCache s (book ++ positionsOf s r)
+  pub chunk-present-keys : acceptedOf (chunkCall s (length history) r) (chunkInputs (stateOf s history) r) .tensors .presentKey ≡ keyCache s (history ++ positionsOf s r)
   unfolding keyCache
   chunk-present-keys =
-      let ps = book ++ positionsOf s r in
-      accepted-present-key (chunkCall s (length book) r) (chunkInputs (stateOf s book) r) refl (λ b g j k. positionOf ps j .key b g k)
-      (chunk-lays s book r ps (λ j l. refl) .key)
-      ∙ ap (λ n. tensorOf 4 (s .batches) (s .kvheads) n (s .size) (λ b g j k. positionOf ps j .key b g k)) (sym (length-joined s r book))
+      let ps = history ++ positionsOf s r in
+      accepted-present-key (chunkCall s (length history) r) (chunkInputs (stateOf s history) r) refl (λ b g j k. positionOf ps j .key b g k)
+      (chunk-lays s history r ps (λ j l. refl) .key)
+      ∙ ap (λ n. tensorOf 4 (s .batches) (s .kvheads) n (s .size) (λ b g j k. positionOf ps j .key b g k)) (sym (length-joined s r history))
 
-  pub chunk-present-values : acceptedOf (chunkCall s (length book) r) (chunkInputs (stateOf s book) r) .tensors .presentValue ≡ valueCache s (book ++ positionsOf s r)
+  pub chunk-present-values : acceptedOf (chunkCall s (length history) r) (chunkInputs (stateOf s history) r) .tensors .presentValue ≡ valueCache s (history ++ positionsOf s r)
   unfolding valueCache
   chunk-present-values =
-      let ps = book ++ positionsOf s r in
-      accepted-present-value (chunkCall s (length book) r) (chunkInputs (stateOf s book) r) refl (λ b g j k. positionOf ps j .value b g k)
-      (chunk-lays s book r ps (λ j l. refl) .value)
-      ∙ ap (λ n. tensorOf 4 (s .batches) (s .kvheads) n (s .vsize) (λ b g j k. positionOf ps j .value b g k)) (sym (length-joined s r book))
+      let ps = history ++ positionsOf s r in
+      accepted-present-value (chunkCall s (length history) r) (chunkInputs (stateOf s history) r) refl (λ b g j k. positionOf ps j .value b g k)
+      (chunk-lays s history r ps (λ j l. refl) .value)
+      ∙ ap (λ n. tensorOf 4 (s .batches) (s .kvheads) n (s .vsize) (λ b g j k. positionOf ps j .value b g k)) (sym (length-joined s r history))
 
   -- row i of a chunk has the bits of row P + i of the plain call over any positions that begin with the history's and the chunk's
-  pub chunk-row : PlainGood s (book ++ positionsOf s r) → (ps : List Position)
-      → length book + lengthOf r ≤ length ps
-      → ((j : ℕ) → j < length book + lengthOf r → positionOf ps j ≡ positionOf (book ++ positionsOf s r) j)
+  pub chunk-row : PlainGood s (history ++ positionsOf s r) → (ps : List Position)
+      → length history + lengthOf r ≤ length ps
+      → ((j : ℕ) → j < length history + lengthOf r → positionOf ps j ≡ positionOf (history ++ positionsOf s r) j)
       → (b h i k : ℕ) → b < s .batches → h < s .qheads → i < lengthOf r → k < s .vsize
-      → attentionOutput (chunkCall s (length book) r) (chunkInputs (stateOf s book) r) b h i k
-      ≡ attentionOutput (plainCall s ps) (plainInputs s ps) b h (length book + i) k
+      → attentionOutput (chunkCall s (length history) r) (chunkInputs (stateOf s history) r) b h i k
+      ≡ attentionOutput (plainCall s ps) (plainInputs s ps) b h (length history + i) k
   chunk-row p ps long same b h i k hb hh hi hk =
-      let hg = grouped-head-lt (plainCall s (book ++ positionsOf s r)) (p .groups) h hh in
-      row-output s Cached (length book) (lengthOf r) (chunkInputs (stateOf s book) r) (λ b. refl) ps (chunk-lays s book r ps same) b h i k hb hh hi hk hg
+      let hg = grouped-head-lt (plainCall s (history ++ positionsOf s r)) (p .groups) h hh in
+      row-output s Cached (length history) (lengthOf r) (chunkInputs (stateOf s history) r) (λ b. refl) ps (chunk-lays s history r ps same) b h i k hb hh hi hk hg
       ∙ ap (λ m. rowOver s ps b h m k) (omega arith)
-      ∙ sym (row-output s Plain 0 (length ps) (plainInputs s ps) (λ b. refl) ps (plain-lays s ps) b h (length book + i) k hb hh (omega arith) hk hg)
+      ∙ sym (row-output s Plain 0 (length ps) (plainInputs s ps) (λ b. refl) ps (plain-lays s ps) b h (length history + i) k hb hh (omega arith) hk hg)

@@ -17,7 +17,7 @@ use Rattle.sequence.specs.Chunks.{Chunk, State, lengthOf, positionsOf}
 
 -- the state after the positions of a history
 abbrev pub stateOf : Call → List Position → State
-stateOf s book = record { past = length book; key = keyCache s book; value = valueCache s book }
+stateOf s history = record { past = length history; key = keyCache s history; value = valueCache s history }
 
 -- position i of a chunk
 abbrev pub chunkPosition : Call → Chunk → ℕ → Position
@@ -41,17 +41,17 @@ module _ (s : Call) (r : Chunk) where
   unfolding positionsOf
   length-positions = length-tabulate (lengthOf r) (chunkPosition s r)
 
-  pub length-joined : (book : List Position) → length (book ++ positionsOf s r) ≡ length book + lengthOf r
-  length-joined book = length-append book (positionsOf s r) ∙ ap (_+_ (length book)) length-positions
+  pub length-joined : (history : List Position) → length (history ++ positionsOf s r) ≡ length history + lengthOf r
+  length-joined history = length-append history (positionsOf s r) ∙ ap (_+_ (length history)) length-positions
 
   -- position P + i of a history of P positions and then a chunk's is position i of the chunk
-  pub position-new : (book : List Position) (i : ℕ) → i < lengthOf r → positionOf (book ++ positionsOf s r) (length book + i) ≡ chunkPosition s r i
+  pub position-new : (history : List Position) (i : ℕ) → i < lengthOf r → positionOf (history ++ positionsOf s r) (length history + i) ≡ chunkPosition s r i
   unfolding positionsOf
-  position-new book i h = getD-append-add book (positionsOf s r) i nowhere ∙ getD-tabulate (lengthOf r) (chunkPosition s r) i nowhere h
+  position-new history i h = getD-append-add history (positionsOf s r) i nowhere ∙ getD-tabulate (lengthOf r) (chunkPosition s r) i nowhere h
 
 -- a position of the history stands where it stood
-pub position-old : (book ps : List Position) (j : ℕ) → j < length book → positionOf (book ++ ps) j ≡ positionOf book j
-position-old book ps j h = List·getD-append book ps nowhere j h
+pub position-old : (history ps : List Position) (j : ℕ) → j < length history → positionOf (history ++ ps) j ≡ positionOf history j
+position-old history ps j h = List·getD-append history ps nowhere j h
 
 -- ---- positions without a fault
 
@@ -66,18 +66,18 @@ abbrev pub AllGood : Call → List Position → Type 0
 AllGood s ps = (i : ℕ) → i < length ps → Good s (positionOf ps i)
 
 -- the positions that a list begins with are good where all are
-pub good-before : (s : Call) (book ps : List Position) → AllGood s (book ++ ps) → AllGood s book
-good-before s book ps g i h =
-    subst (Good s) (position-old book ps i h) (g i (let l = length-append book ps in omega arith))
+pub good-before : (s : Call) (history ps : List Position) → AllGood s (history ++ ps) → AllGood s history
+good-before s history ps g i h =
+    subst (Good s) (position-old history ps i h) (g i (let l = length-append history ps in omega arith))
 
 -- a chunk's positions are good where those of the history and it are
-pub good-chunk : (s : Call) (book : List Position) (r : Chunk) → AllGood s (book ++ positionsOf s r) → (i : ℕ) → i < lengthOf r → Good s (chunkPosition s r i)
-good-chunk s book r g i h =
-    subst (Good s) (position-new s r book i h) (g (length book + i) (let l = length-joined s r book in omega arith))
+pub good-chunk : (s : Call) (history : List Position) (r : Chunk) → AllGood s (history ++ positionsOf s r) → (i : ℕ) → i < lengthOf r → Good s (chunkPosition s r i)
+good-chunk s history r g i h =
+    subst (Good s) (position-new s r history i h) (g (length history + i) (let l = length-joined s r history in omega arith))
 
 -- a history and a chunk are good where each is
-pub good-joined : (s : Call) (book : List Position) (r : Chunk) → AllGood s book → ((i : ℕ) → i < lengthOf r → Good s (chunkPosition s r i)) → AllGood s (book ++ positionsOf s r)
-good-joined s book r old new j h =
-    below-or-past (length book) j (λ j. Good s (positionOf (book ++ positionsOf s r) j))
-    (λ l. subst (Good s) (sym (position-old book (positionsOf s r) j l)) (old j l))
-    (λ i e. let l : i < lengthOf r = let z = length-joined s r book in omega arith in subst (Good s) (sym (position-new s r book i l)) (new i l))
+pub good-joined : (s : Call) (history : List Position) (r : Chunk) → AllGood s history → ((i : ℕ) → i < lengthOf r → Good s (chunkPosition s r i)) → AllGood s (history ++ positionsOf s r)
+good-joined s history r old new j h =
+    below-or-past (length history) j (λ j. Good s (positionOf (history ++ positionsOf s r) j))
+    (λ l. subst (Good s) (sym (position-old history (positionsOf s r) j l)) (old j l))
+    (λ i e. let l : i < lengthOf r = let z = length-joined s r history in omega arith in subst (Good s) (sym (position-new s r history i l)) (new i l))

@@ -10,8 +10,7 @@ use Rattle.call.specs.Answers.{reportOf}
 use Rattle.call.specs.Tensors.{Inputs, Outputs}
 use Rattle.call.specs.Refusals.{verdictOf}
 use Rattle.call.proofs.Lowest.{refused-not-zero}
-use Rattle.sequence.specs.Chunks.{State, nextState}
-use Rattle.sequence.specs.Demand.{isDone}
+use Rattle.sequence.specs.Chunks.{State, nextState, isDone}
 
 -- the answer of a refusal is not done
 pub refused-not-done : (c : Call) (x : Inputs) (y : Outputs) (a : Answer) → verdictOf c x y ≡ Refused a → isDone a ≡ false

@@ -22,8 +22,7 @@ use Rattle.attention.specs.Elements.{cellAt}
 use Rattle.attention.specs.Outcomes.{acceptedOf, attentionOf}
 use Rattle.attention.proofs.Outcome.{accepted-outcome, refused-outcome}
 use Rattle.sequence.specs.Positions.{Position, positionOf, plainCall, keyCache, valueCache}
-use Rattle.sequence.specs.Chunks.{Chunk, lengthOf, chunkCall, chunkInputs, chunkOutcome, positionsOf, plainAccepted, entered}
-use Rattle.sequence.specs.Demand.{isDone}
+use Rattle.sequence.specs.Chunks.{Chunk, lengthOf, chunkCall, chunkInputs, chunkOutcome, positionsOf, plainAccepted, entered, isDone}
 use Rattle.sequence.proofs.Cells.{nothing→good, good→nothing, nothing→good-incoming, good→nothing-incoming}
 use Rattle.sequence.proofs.Places.{stateOf, length-joined, AllGood, good-before, good-chunk, good-joined}
 use Rattle.sequence.proofs.Plain.{split, both, limits→limited, limited→limits, PlainGood, plain→good, good→plain}
@@ -31,25 +30,25 @@ use Rattle.sequence.proofs.Refusing.{refused-not-done}
 
 -- ---- the caches of a history
 
-module _ (s : Call) (book : List Position) where
+module _ (s : Call) (history : List Position) where
   -- the caches of a history have the right lengths, and their cells are those of its positions
-  pub key-cache-length : length (keyCache s book) ≡ s .batches * s .kvheads * length book * s .size
+  pub key-cache-length : length (keyCache s history) ≡ s .batches * s .kvheads * length history * s .size
   unfolding keyCache
-  key-cache-length = length-tensorOf 4 (s .batches) (s .kvheads) (length book) (s .size) (λ b g j k. positionOf book j .key b g k)
+  key-cache-length = length-tensorOf 4 (s .batches) (s .kvheads) (length history) (s .size) (λ b g j k. positionOf history j .key b g k)
 
-  pub value-cache-length : length (valueCache s book) ≡ s .batches * s .kvheads * length book * s .vsize
+  pub value-cache-length : length (valueCache s history) ≡ s .batches * s .kvheads * length history * s .vsize
   unfolding valueCache
-  value-cache-length = length-tensorOf 4 (s .batches) (s .kvheads) (length book) (s .vsize) (λ b g j k. positionOf book j .value b g k)
+  value-cache-length = length-tensorOf 4 (s .batches) (s .kvheads) (length history) (s .vsize) (λ b g j k. positionOf history j .value b g k)
 
-  pub key-cache-cell : (b g j k : ℕ) → b < s .batches → g < s .kvheads → j < length book → k < s .size
-      → cellAt (keyCache s book) 4 (s .kvheads) (length book) (s .size) b g j k ≡ positionOf book j .key b g k
+  pub key-cache-cell : (b g j k : ℕ) → b < s .batches → g < s .kvheads → j < length history → k < s .size
+      → cellAt (keyCache s history) 4 (s .kvheads) (length history) (s .size) b g j k ≡ positionOf history j .key b g k
   unfolding keyCache
-  key-cache-cell b g j k = getD-tensorOf 4 (s .batches) (s .kvheads) (length book) (s .size) (λ b g j k. positionOf book j .key b g k) b g j k nan
+  key-cache-cell b g j k = getD-tensorOf 4 (s .batches) (s .kvheads) (length history) (s .size) (λ b g j k. positionOf history j .key b g k) b g j k nan
 
-  pub value-cache-cell : (b g j k : ℕ) → b < s .batches → g < s .kvheads → j < length book → k < s .vsize
-      → cellAt (valueCache s book) 4 (s .kvheads) (length book) (s .vsize) b g j k ≡ positionOf book j .value b g k
+  pub value-cache-cell : (b g j k : ℕ) → b < s .batches → g < s .kvheads → j < length history → k < s .vsize
+      → cellAt (valueCache s history) 4 (s .kvheads) (length history) (s .vsize) b g j k ≡ positionOf history j .value b g k
   unfolding valueCache
-  value-cache-cell b g j k = getD-tensorOf 4 (s .batches) (s .kvheads) (length book) (s .vsize) (λ b g j k. positionOf book j .value b g k) b g j k nan
+  value-cache-cell b g j k = getD-tensorOf 4 (s .batches) (s .kvheads) (length history) (s .vsize) (λ b g j k. positionOf history j .value b g k) b g j k nan
 
 -- ---- accepted exactly when entered
 
@@ -58,22 +57,22 @@ pub empty : {A : Type 0} (l : List A) → length l ≡ 0 → l ≡ []
 empty [] e = refl
 empty (x ∷ l) e = absurd (omega arith)
 
-module _ (s : Call) (book : List Position) (r : Chunk) where
+module _ (s : Call) (history : List Position) (r : Chunk) where
   -- no refusal applies to a chunk only where none applies to the plain call over the history and it
-  accepts→plain : AllGood s book → Accepts (chunkCall s (length book) r) (chunkInputs (stateOf s book) r) (r .lent) → PlainGood s (book ++ positionsOf s r)
+  accepts→plain : AllGood s history → Accepts (chunkCall s (length history) r) (chunkInputs (stateOf s history) r) (r .lent) → PlainGood s (history ++ positionsOf s r)
   accepts→plain good a =
-      let c = chunkCall s (length book) r in
-      let f = fit→lengths c (chunkInputs (stateOf s book) r) (a .inputs) in
-      let d = limits→limited s Cached (length book) (lengthOf r) (a .limits) in
+      let c = chunkCall s (length history) r in
+      let f = fit→lengths c (chunkInputs (stateOf s history) r) (a .inputs) in
+      let d = limits→limited s Cached (length history) (lengthOf r) (a .limits) in
       let q = nothing→good (s .rank) (s .batches) (s .qheads) (lengthOf r) (s .size) (r .query) (f .query) (a .query) in
       let k = nothing→good-incoming c (r .live) (λ b. refl) (s .size) (r .key) (f .key) (a .key) in
       let v = nothing→good-incoming c (r .live) (λ b. refl) (s .vsize) (r .value) (f .value) (a .value) in
-      let n = length-joined s r book in
+      let n = length-joined s r history in
       record {
         limited = record { dimensions = d .dimensions; some = omega arith; total = omega arith };
-        groups = groups-same (plainCall s (book ++ positionsOf s r)) c refl refl ∙ a .groups;
-        settings = settings-same (plainCall s (book ++ positionsOf s r)) c refl refl refl refl ∙ a .settings;
-        good = good-joined s book r good
+        groups = groups-same (plainCall s (history ++ positionsOf s r)) c refl refl ∙ a .groups;
+        settings = settings-same (plainCall s (history ++ positionsOf s r)) c refl refl refl refl ∙ a .settings;
+        good = good-joined s history r good
             (λ i l. record {
               query = λ b h n hb hh hn. q b h i n hb hh l hn;
               key = λ b g n hb hg hn. k b g i n hb hg l hn;
@@ -82,19 +81,19 @@ module _ (s : Call) (book : List Position) (r : Chunk) where
       }
 
   -- none applies to a chunk of the right lengths where none applies to that plain call
-  plain→accepts : inputsFit (chunkCall s (length book) r) (chunkInputs (stateOf s book) r) ≡ true → outputsFit (chunkCall s (length book) r) (r .lent) ≡ true
-      → PlainGood s (book ++ positionsOf s r) → Accepts (chunkCall s (length book) r) (chunkInputs (stateOf s book) r) (r .lent)
+  plain→accepts : inputsFit (chunkCall s (length history) r) (chunkInputs (stateOf s history) r) ≡ true → outputsFit (chunkCall s (length history) r) (r .lent) ≡ true
+      → PlainGood s (history ++ positionsOf s r) → Accepts (chunkCall s (length history) r) (chunkInputs (stateOf s history) r) (r .lent)
   plain→accepts inputs outputs p =
-      let c = chunkCall s (length book) r in
-      let f = fit→lengths c (chunkInputs (stateOf s book) r) inputs in
+      let c = chunkCall s (length history) r in
+      let f = fit→lengths c (chunkInputs (stateOf s history) r) inputs in
       let d = p .limited in
-      let new = good-chunk s book r (p .good) in
-      let old = good-before s book (positionsOf s r) (p .good) in
-      let n = length-joined s r book in
+      let new = good-chunk s history r (p .good) in
+      let old = good-before s history (positionsOf s r) (p .good) in
+      let n = length-joined s r history in
       record {
-        limits = limited→limits s Cached (length book) (lengthOf r) refl (record { dimensions = d .dimensions; some = omega arith; total = omega arith });
-        groups = groups-same c (plainCall s (book ++ positionsOf s r)) refl refl ∙ p .groups;
-        settings = settings-same c (plainCall s (book ++ positionsOf s r)) refl refl refl refl ∙ p .settings;
+        limits = limited→limits s Cached (length history) (lengthOf r) refl (record { dimensions = d .dimensions; some = omega arith; total = omega arith });
+        groups = groups-same c (plainCall s (history ++ positionsOf s r)) refl refl ∙ p .groups;
+        settings = settings-same c (plainCall s (history ++ positionsOf s r)) refl refl refl refl ∙ p .settings;
         maskShape = shape-without-mask c refl;
         inputs = inputs;
         outputs = outputs;
@@ -103,62 +102,62 @@ module _ (s : Call) (book : List Position) (r : Chunk) where
         cells = ap floatMaskFault (empty (r .floatMask) (f .floatMask)) ∙ no-cells;
         query = good→nothing (s .rank) (s .batches) (s .qheads) (lengthOf r) (s .size) (r .query) (f .query)
             (λ b h i n hb hh l hn. new i l .query b h n hb hh hn);
-        pastKey = good→nothing 4 (s .batches) (s .kvheads) (length book) (s .size) (keyCache s book) (key-cache-length s book)
-            (λ b g i n hb hg l hn. rw (key-cache-cell s book b g i n hb hg l hn) (old i l .key b g n hb hg hn));
+        pastKey = good→nothing 4 (s .batches) (s .kvheads) (length history) (s .size) (keyCache s history) (key-cache-length s history)
+            (λ b g i n hb hg l hn. rw (key-cache-cell s history b g i n hb hg l hn) (old i l .key b g n hb hg hn));
         key = good→nothing-incoming c (r .live) (λ b. refl) (s .size) (r .key) (f .key)
             (λ b g i n hb hg l hn. new i l .key b g n hb hg hn);
-        pastValue = good→nothing 4 (s .batches) (s .kvheads) (length book) (s .vsize) (valueCache s book) (value-cache-length s book)
-            (λ b g i n hb hg l hn. rw (value-cache-cell s book b g i n hb hg l hn) (old i l .value b g n hb hg hn));
+        pastValue = good→nothing 4 (s .batches) (s .kvheads) (length history) (s .vsize) (valueCache s history) (value-cache-length s history)
+            (λ b g i n hb hg l hn. rw (value-cache-cell s history b g i n hb hg l hn) (old i l .value b g n hb hg hn));
         value = good→nothing-incoming c (r .live) (λ b. refl) (s .vsize) (r .value) (f .value)
             (λ b g i n hb hg l hn. new i l .value b g n hb hg hn);
       }
 
   -- a chunk of the right lengths is entered where none applies to that plain call
-  pub fits→entered : inputsFit (chunkCall s (length book) r) (chunkInputs (stateOf s book) r) ≡ true → outputsFit (chunkCall s (length book) r) (r .lent) ≡ true
-      → PlainGood s (book ++ positionsOf s r) → entered s (stateOf s book) book r ≡ true
+  pub fits→entered : inputsFit (chunkCall s (length history) r) (chunkInputs (stateOf s history) r) ≡ true → outputsFit (chunkCall s (length history) r) (r .lent) ≡ true
+      → PlainGood s (history ++ positionsOf s r) → entered s (stateOf s history) history r ≡ true
   unfolding entered
-  fits→entered inputs outputs p = both (both inputs outputs) (good→plain s (book ++ positionsOf s r) p)
+  fits→entered inputs outputs p = both (both inputs outputs) (good→plain s (history ++ positionsOf s r) p)
 
-  entered→parts : entered s (stateOf s book) book r ≡ true
-      → (inputsFit (chunkCall s (length book) r) (chunkInputs (stateOf s book) r) ≡ true) × (outputsFit (chunkCall s (length book) r) (r .lent) ≡ true) × PlainGood s (book ++ positionsOf s r)
+  entered→parts : entered s (stateOf s history) history r ≡ true
+      → (inputsFit (chunkCall s (length history) r) (chunkInputs (stateOf s history) r) ≡ true) × (outputsFit (chunkCall s (length history) r) (r .lent) ≡ true) × PlainGood s (history ++ positionsOf s r)
   unfolding entered
   entered→parts e =
-      let i = inputsFit (chunkCall s (length book) r) (chunkInputs (stateOf s book) r) in
-      let o = outputsFit (chunkCall s (length book) r) (r .lent) in
-      let e1 = split (i && o) (plainAccepted s (book ++ positionsOf s r)) e in
+      let i = inputsFit (chunkCall s (length history) r) (chunkInputs (stateOf s history) r) in
+      let o = outputsFit (chunkCall s (length history) r) (r .lent) in
+      let e1 = split (i && o) (plainAccepted s (history ++ positionsOf s r)) e in
       let e0 = split i o (e1 .0) in
-      (e0 .0, e0 .1, plain→good s (book ++ positionsOf s r) (e1 .1))
+      (e0 .0, e0 .1, plain→good s (history ++ positionsOf s r) (e1 .1))
 
   -- the plain call over the history and an entered chunk is accepted
-  pub entered→plain : entered s (stateOf s book) book r ≡ true → PlainGood s (book ++ positionsOf s r)
+  pub entered→plain : entered s (stateOf s history) history r ≡ true → PlainGood s (history ++ positionsOf s r)
   entered→plain e = entered→parts e .2
 
   -- an entered chunk is accepted
-  pub entered-outcome : entered s (stateOf s book) book r ≡ true
-      → chunkOutcome s (stateOf s book) r ≡ acceptedOf (chunkCall s (length book) r) (chunkInputs (stateOf s book) r)
+  pub entered-outcome : entered s (stateOf s history) history r ≡ true
+      → chunkOutcome s (stateOf s history) r ≡ acceptedOf (chunkCall s (length history) r) (chunkInputs (stateOf s history) r)
   unfolding chunkOutcome
   entered-outcome e =
       let p = entered→parts e in
-      let c = chunkCall s (length book) r in
-      let x = chunkInputs (stateOf s book) r in
+      let c = chunkCall s (length history) r in
+      let x = chunkInputs (stateOf s history) r in
       accepted-outcome c x (r .lent) (accepts→verdict c x (r .lent) (plain→accepts (p .0) (p .1) (p .2)))
 
   -- any other chunk is refused: its answer is not done, and every lent tensor is as before
-  pub other-outcome : AllGood s book → entered s (stateOf s book) book r ≡ false
-      → (isDone (chunkOutcome s (stateOf s book) r .answer) ≡ false) × (chunkOutcome s (stateOf s book) r .tensors ≡ r .lent)
+  pub other-outcome : AllGood s history → entered s (stateOf s history) history r ≡ false
+      → (isDone (chunkOutcome s (stateOf s history) r .answer) ≡ false) × (chunkOutcome s (stateOf s history) r .tensors ≡ r .lent)
   unfolding chunkOutcome
   other-outcome good e = go (verdictOf c x (r .lent)) refl
     where
       c : Call
-      c = chunkCall s (length book) r
+      c = chunkCall s (length history) r
 
       x : Inputs
-      x = chunkInputs (stateOf s book) r
+      x = chunkInputs (stateOf s history) r
 
       go : (v : Verdict) → verdictOf c x (r .lent) ≡ v → (isDone (attentionOf c x (r .lent) .answer) ≡ false) × (attentionOf c x (r .lent) .tensors ≡ r .lent)
       go Accepted p =
           let a = verdict→accepts c x (r .lent) p in
-          let t : entered s (stateOf s book) book r ≡ true = fits→entered (a .inputs) (a .outputs) (accepts→plain good a) in
+          let t : entered s (stateOf s history) history r ≡ true = fits→entered (a .inputs) (a .outputs) (accepts→plain good a) in
           absurd (let z : _≡_ {A = ℕ} 0 1 = cc in omega arith)
       go (Refused a) p =
           let o = refused-outcome c x (r .lent) a p in

@@ -11,72 +11,72 @@ use Rattle.attention.specs.Elements.{cellAt}
 use Rattle.attention.specs.Formula.{attentionOutput}
 use Rattle.attention.proofs.Outcome.{accepted-output}
 use Rattle.sequence.specs.Positions.{Position, positionOf, plainCall, plainInputs}
-use Rattle.sequence.specs.Chunks.{Chunk, State, start, lengthOf, chunkCall, chunkInputs, chunkOutcome, stateAfter, positionsOf, entered, historyNext, historyAfter}
-use Rattle.sequence.specs.Demand.{isDone, ChunkHolds, Demand3}
+use Rattle.sequence.specs.Chunks.{Chunk, State, start, lengthOf, chunkCall, chunkInputs, chunkOutcome, stateAfter, positionsOf, entered, historyNext, historyAfter, isDone}
+use Rattle.sequence.specs.Demand.{ChunkHolds, Demand3}
 use Rattle.sequence.proofs.Plain.{good→plain}
 use Rattle.sequence.proofs.Places.{stateOf, AllGood, length-joined, position-old}
 use Rattle.sequence.proofs.Step.{entered→plain, entered-outcome, other-outcome}
 use Rattle.sequence.proofs.Outputs.{chunk-answer, chunk-row}
 use Rattle.sequence.proofs.Kept.{Kept, next, history-entered, kept-start, kept-after, history-extends, history-append}
 
-module _ (s : Call) (book : List Position) (r : Chunk) where
+module _ (s : Call) (history : List Position) (r : Chunk) where
   -- a chunk is accepted exactly when it is entered
-  pub done-entered : AllGood s book → isDone (chunkOutcome s (stateOf s book) r .answer) ≡ entered s (stateOf s book) book r
-  done-entered good = go (entered s (stateOf s book) book r) refl
+  pub done-entered : AllGood s history → isDone (chunkOutcome s (stateOf s history) r .answer) ≡ entered s (stateOf s history) history r
+  done-entered good = go (entered s (stateOf s history) history r) refl
     where
-      go : (t : Bool) → entered s (stateOf s book) book r ≡ t → isDone (chunkOutcome s (stateOf s book) r .answer) ≡ entered s (stateOf s book) book r
-      go true e = ap (λ o. isDone (o .answer)) (entered-outcome s book r e) ∙ ap isDone (chunk-answer s book r) ∙ sym e
-      go false e = other-outcome s book r good e .0 ∙ sym e
+      go : (t : Bool) → entered s (stateOf s history) history r ≡ t → isDone (chunkOutcome s (stateOf s history) r .answer) ≡ entered s (stateOf s history) history r
+      go true e = ap (λ o. isDone (o .answer)) (entered-outcome s history r e) ∙ ap isDone (chunk-answer s history r) ∙ sym e
+      go false e = other-outcome s history r good e .0 ∙ sym e
 
-  answer-entered : entered s (stateOf s book) book r ≡ true → chunkOutcome s (stateOf s book) r .answer ≡ Done (length (historyNext s (stateOf s book) book r)) 0
+  answer-entered : entered s (stateOf s history) history r ≡ true → chunkOutcome s (stateOf s history) r .answer ≡ Done (length (historyNext s (stateOf s history) history r)) 0
   answer-entered e =
-      ap (λ o. o .answer) (entered-outcome s book r e)
-      ∙ chunk-answer s book r
-      ∙ ap (λ n. Done n 0) (sym (ap length (history-entered s (stateOf s book) book r e) ∙ length-joined s r book))
+      ap (λ o. o .answer) (entered-outcome s history r e)
+      ∙ chunk-answer s history r
+      ∙ ap (λ n. Done n 0) (sym (ap length (history-entered s (stateOf s history) history r e) ∙ length-joined s r history))
 
-  row-entered : (whole later : List Position) → whole ≡ historyNext s (stateOf s book) book r ++ later → entered s (stateOf s book) book r ≡ true
+  row-entered : (whole later : List Position) → whole ≡ historyNext s (stateOf s history) history r ++ later → entered s (stateOf s history) history r ≡ true
       → (b h i k : ℕ) → b < s .batches → h < s .qheads → i < lengthOf r → k < s .vsize
-      → cellAt (chunkOutcome s (stateOf s book) r .tensors .output) (s .rank) (s .qheads) (lengthOf r) (s .vsize) b h i k
-      ≡ attentionOutput (plainCall s whole) (plainInputs s whole) b h (length book + i) k
+      → cellAt (chunkOutcome s (stateOf s history) r .tensors .output) (s .rank) (s .qheads) (lengthOf r) (s .vsize) b h i k
+      ≡ attentionOutput (plainCall s whole) (plainInputs s whole) b h (length history + i) k
   row-entered whole later w e b h i k hb hh hi hk =
-      let c = chunkCall s (length book) r in
-      let x = chunkInputs (stateOf s book) r in
-      let ps = book ++ positionsOf s r in
-      let begins : whole ≡ ps ++ later = w ∙ ap (λ l. l ++ later) (history-entered s (stateOf s book) book r e) in
-      let n = length-joined s r book in
-      let long : length book + lengthOf r ≤ length whole = let m = ap length begins ∙ length-append ps later in omega arith in
-      ap (λ o. cellAt (o .tensors .output) (s .rank) (s .qheads) (lengthOf r) (s .vsize) b h i k) (entered-outcome s book r e)
+      let c = chunkCall s (length history) r in
+      let x = chunkInputs (stateOf s history) r in
+      let ps = history ++ positionsOf s r in
+      let begins : whole ≡ ps ++ later = w ∙ ap (λ l. l ++ later) (history-entered s (stateOf s history) history r e) in
+      let n = length-joined s r history in
+      let long : length history + lengthOf r ≤ length whole = let m = ap length begins ∙ length-append ps later in omega arith in
+      ap (λ o. cellAt (o .tensors .output) (s .rank) (s .qheads) (lengthOf r) (s .vsize) b h i k) (entered-outcome s history r e)
       ∙ accepted-output c x b h i k hb hh hi hk
-      ∙ chunk-row s book r (entered→plain s book r e) whole long
+      ∙ chunk-row s history r (entered→plain s history r e) whole long
       (λ j l. ap (λ q. positionOf q j) begins ∙ position-old ps later j (omega arith))
       b h i k hb hh hi hk
 
-  chunk-holds : AllGood s book → (whole later : List Position) → whole ≡ historyNext s (stateOf s book) book r ++ later → ChunkHolds s (stateOf s book) book r whole
+  chunk-holds : AllGood s history → (whole later : List Position) → whole ≡ historyNext s (stateOf s history) history r ++ later → ChunkHolds s (stateOf s history) history r whole
   chunk-holds good whole later w = record {
     accepted = done-entered good;
     answer = answer-entered;
-    refused = λ e. other-outcome s book r good e .1;
+    refused = λ e. other-outcome s history r good e .1;
     output = row-entered whole later w;
   }
 
 -- what holds of one chunk, on a state that is the caches of the history
-kept-holds : (s : Call) (st : State) (book : List Position) (r : Chunk) (whole later : List Position) → Kept s st book → whole ≡ historyNext s st book r ++ later → ChunkHolds s st book r whole
-kept-holds s st book r whole later k =
-    subst (λ st. whole ≡ historyNext s st book r ++ later → ChunkHolds s st book r whole) (sym (k .state)) (chunk-holds s book r (k .good) whole later)
+kept-holds : (s : Call) (st : State) (history : List Position) (r : Chunk) (whole later : List Position) → Kept s st history → whole ≡ historyNext s st history r ++ later → ChunkHolds s st history r whole
+kept-holds s st history r whole later k =
+    subst (λ st. whole ≡ historyNext s st history r ++ later → ChunkHolds s st history r whole) (sym (k .state)) (chunk-holds s history r (k .good) whole later)
 
 -- of every sequence of chunks demand 3 holds
-pub demand3 : (s : Call) (runs : List Chunk) → Demand3 s runs
+pub demand3 : (s : Call) (chunks : List Chunk) → Demand3 s chunks
 unfolding historyAfter
-demand3 s runs =
-    let k = kept-after s start [] runs (kept-start s) in
+demand3 s chunks =
+    let k = kept-after s start [] chunks (kept-start s) in
     record {
       each = λ before r after e.
           let st = stateAfter s start before in
-          let book = historyAfter s start [] before in
-          let later = history-extends s (next s st r) (historyNext s st book r) after in
-          kept-holds s st book r (historyAfter s start [] runs) (later .0) (kept-after s start [] before (kept-start s))
+          let history = historyAfter s start [] before in
+          let later = history-extends s (next s st r) (historyNext s st history r) after in
+          kept-holds s st history r (historyAfter s start [] chunks) (later .0) (kept-after s start [] before (kept-start s))
           (ap (historyAfter s start []) e ∙ history-append s start [] before (r ∷ after) ∙ later .1);
-      plain = λ some. good→plain s (historyAfter s start [] runs) (k .plain some);
+      plain = λ some. good→plain s (historyAfter s start [] chunks) (k .plain some);
       total = ap (λ st. st .past) (k .state);
       keys = ap (λ st. st .key) (k .state);
       values = ap (λ st. st .value) (k .state);

@@ -1,7 +1,8 @@
 -- Chunks (runs) of a recording: causal cached calls without a mask, each on the caches that the last accepted one left; and the history (the book) of the positions that were entered. Definitions only.
 use mathlib.Core.List.{List, [], _∷_, _++_}
 use Prim.Native.Nat.{ℕ, suc}
-use mathlib.Core.Bool.{Bool, true, false, _&&_}
+use mathlib.Core.Bool.{Bool, true, false, _&&_, cond}
+use lib.Dec.{eqb}
 use lib.IntN.{ℤ}
 use lib.Ieee.{Float}
 use lib.ListN.{length}
@@ -9,7 +10,7 @@ use Rattle.tensor_laws.specs.Layout.{tabulate}
 use Rattle.call.specs.declared.Call.{Call}
 use Rattle.call.specs.declared.Form.the-variants.{Cached}
 use Rattle.call.specs.declared.Answer.{Answer}
-use Rattle.call.specs.declared.Answer.the-variants.{Done, Limits, HeadGroups, Settings, MaskShape, InputLength, OutputLength, LiveCount, MaskCell, Element}
+use Rattle.call.specs.Answers.{reportOf}
 use Rattle.call.specs.declared.Verdict.{Verdict}
 use Rattle.call.specs.declared.Verdict.the-variants.{Accepted, Refused}
 use Rattle.call.specs.Tensors.{Inputs, Outputs}
@@ -64,18 +65,13 @@ unfoldable pub chunkOutcome : Call → State → Chunk → Outcome
 unfolding attentionOf
 chunkOutcome s st r = attentionOf (chunkCall s (st .past) r) (chunkInputs st r) (r .lent)
 
+-- the call was accepted: the answer has the number 0
+abbrev pub isDone : Answer → Bool
+isDone a = eqb (reportOf a .number) 0
+
 -- the state after an answer: T and the presents where it is done, and the state before otherwise
 abbrev pub nextState : Answer → State → Outputs → State
-nextState (Done total masked) st y = record { past = total; key = y .presentKey; value = y .presentValue }
-nextState Limits st y = st
-nextState HeadGroups st y = st
-nextState Settings st y = st
-nextState MaskShape st y = st
-nextState InputLength st y = st
-nextState OutputLength st y = st
-nextState (LiveCount i) st y = st
-nextState (MaskCell i) st y = st
-nextState (Element t i) st y = st
+nextState a st y = cond (isDone a) (record { past = reportOf a .total; key = y .presentKey; value = y .presentValue }) st
 
 unfoldable pub stateAfter : Call → State → List Chunk → State
 unfolding chunkOutcome
@@ -107,22 +103,22 @@ plainAccepted s ps = isAccepted (verdictOf (plainCall s ps) (plainInputs s ps) (
 -- A chunk is entered exactly when its tensors have the right lengths and the plain call over the history's positions and then its own is one to which no refusal applies.
 unfoldable pub entered : Call → State → List Position → Chunk → Bool
 unfolding inputsFit outputsFit plainAccepted positionsOf
-entered s st book r =
-    inputsFit (chunkCall s (length book) r) (chunkInputs st r)
-    && outputsFit (chunkCall s (length book) r) (r .lent)
-    && plainAccepted s (book ++ positionsOf s r)
+entered s st history r =
+    inputsFit (chunkCall s (length history) r) (chunkInputs st r)
+    && outputsFit (chunkCall s (length history) r) (r .lent)
+    && plainAccepted s (history ++ positionsOf s r)
 
 abbrev pub joined : Bool → List Position → List Position → List Position
-joined true book ps = book ++ ps
-joined false book ps = book
+joined true history ps = history ++ ps
+joined false history ps = history
 
 -- the history after a chunk, and after a sequence of chunks from a state and a history
 unfoldable pub historyNext : Call → State → List Position → Chunk → List Position
 unfolding entered positionsOf
-historyNext s st book r = joined (entered s st book r) book (positionsOf s r)
+historyNext s st history r = joined (entered s st history r) history (positionsOf s r)
 
 unfoldable pub historyAfter : Call → State → List Position → List Chunk → List Position
 unfolding historyNext chunkOutcome
-historyAfter s st book [] = book
-historyAfter s st book (r ∷ rs) =
-    historyAfter s (nextState (chunkOutcome s st r .answer) st (chunkOutcome s st r .tensors)) (historyNext s st book r) rs
+historyAfter s st history [] = history
+historyAfter s st history (r ∷ rs) =
+    historyAfter s (nextState (chunkOutcome s st r .answer) st (chunkOutcome s st r .tensors)) (historyNext s st history r) rs

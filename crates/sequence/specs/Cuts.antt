@@ -8,8 +8,7 @@ use Rattle.exponential.specs.ExpNeg.{plusZero}
 use Rattle.call.specs.declared.Call.{Call}
 use Rattle.call.specs.Lengths.{inputsFit, outputsFit}
 use Rattle.sequence.specs.Positions.{Position}
-use Rattle.sequence.specs.Chunks.{Chunk, State, start, lengthOf, chunkCall, chunkInputs, chunkOutcome, nextState, positionsOf, plainAccepted}
-use Rattle.sequence.specs.Demand.{isDone}
+use Rattle.sequence.specs.Chunks.{Chunk, State, start, lengthOf, chunkCall, chunkInputs, chunkOutcome, nextState, positionsOf, plainAccepted, isDone}
 
 -- caches of the right lengths after `past` positions
 abbrev pub cachesFor : Call → ℕ → State

@@ -4,3 +4,5 @@ pub mod Unit
 pub mod Rows
 pub mod Scores
 pub mod Softmax
+pub mod Positions
+pub mod Eight

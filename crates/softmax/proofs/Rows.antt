@@ -1,33 +1,19 @@
--- A row that starts inside a longer list, as `&keys[at..]` lends it: its length, its elements, and what the dot product and the weighted sum make of it. Assumes nothing.
+-- A row that starts inside a longer list, as `&keys[at..]` lends it: what the dot product and the weighted sum make of it. Assumes nothing.
 use mathlib.Core.Path.{_≡_, sym, ap, _∙_}
 use mathlib.Core.List.{List}
 use Prim.Native.Nat.{ℕ, _+_, _*_, _-_, _<_}
 use native.Mathlib.Numerals.{add-one}
-use native.Mathlib.Omega.{arith}
-use lib.ListN.{length, take, drop, length-drop}
-use lib.Seq.{take-all, getD-drop}
+use lib.ListN.{length}
 use lib.Ieee.{Float, nan, binary32, add, mul}
 use Rattle.tensor_laws.specs.Layout.{tabulate}
+use Rattle.tensor_laws.proofs.Tails.{partOf, getD-part}
 use Rattle.tensor_laws.proofs.Tabulate.{length-tabulate, getD-tabulate, tabulate-ext}
 use Rattle.softmax.specs.Row.{dotOf}
 use Rattle.softmax.specs.Lists.{elementOf, dotRowOf, accumulatedOf, accumulatedRowOf}
 
--- the list from the element at on
-abbrev pub partOf : ℕ → List Float → List Float
-partOf at l = take (length l - at) (drop at l)
-
-part-is : (at : ℕ) (l : List Float) → partOf at l ≡ drop at l
-part-is at l = take-all (length l - at) (drop at l) (omega (arith, length-drop at l))
-
-pub length-part : (at : ℕ) (l : List Float) → length (partOf at l) ≡ length l - at
-length-part at l = ap length (part-is at l) ∙ length-drop at l
-
-pub element-part : (at : ℕ) (l : List Float) (c : ℕ) → elementOf (partOf at l) c ≡ elementOf l (at + c)
-element-part at l c = ap (λ (r : List Float). elementOf r c) (part-is at l) ∙ getD-drop at l c nan
-
 pub dot-part : (q keys : List Float) (at : ℕ) → dotRowOf q (partOf at keys) ≡ dotOf (length q) (elementOf q) (λ c. elementOf keys (at + c))
 unfolding dotRowOf
-dot-part q keys at = ap (dotOf (length q) (elementOf q)) (λ i c. element-part at keys c i)
+dot-part q keys at = ap (dotOf (length q) (elementOf q)) (λ i c. getD-part at keys c nan i)
 
 -- ---- the weighted sum
 
@@ -42,7 +28,7 @@ module _ (weights values : List Float) (stride : ℕ) (out : List Float) (j : �
   column-next c h =
       let columns = columnOf weights values stride out in
       let added : Float → Float → Float = λ x v. add binary32 x (mul binary32 (elementOf weights j) v) in
-      (λ i. added (getD-tabulate (length out) (columns j) c nan h i) (element-part (j * stride) values c i)) ∙ ap (λ (n : ℕ). columns n c) (sym (add-one j))
+      (λ i. added (getD-tabulate (length out) (columns j) c nan h i) (getD-part (j * stride) values c nan i)) ∙ ap (λ (n : ℕ). columns n c) (sym (add-one j))
 
   pub weighted-next : accumulatedRowOf (elementOf weights j) (partOf (j * stride) values) (tabulate (length out) (columnOf weights values stride out j)) ≡ tabulate (length out) (columnOf weights values stride out (j + 1))
   unfolding accumulatedRowOf

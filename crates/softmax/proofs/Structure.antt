@@ -148,6 +148,16 @@ agree-score n q q' k k' scale a b = ap (λ (x : Float). mul binary32 x scale) (a
 
 -- ---- runs of seen positions
 
+-- the output of a row is that of its weights
+pub row-output : (n : ℕ) (sees : ℕ → Bool) (score value : ℕ → Float) → rowOutputOf n sees score value ≡ outputOf n sees (weightOf n sees score) value
+unfolding rowOutputOf
+row-output n sees score value = refl
+
+-- the output of no positions is +0
+pub output-none : (sees : ℕ → Bool) (weight value : ℕ → Float) → outputOf 0 sees weight value ≡ plusZero
+unfolding outputOf sumOf
+output-none sees weight value = refl
+
 -- the output through a hidden position is the output before it
 pub output-skip : (a : ℕ) (sees : ℕ → Bool) (weight value : ℕ → Float) → sees a ≡ false → outputOf (suc a) sees weight value ≡ outputOf a sees weight value
 unfolding outputOf

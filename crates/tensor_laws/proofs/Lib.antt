@@ -4,3 +4,4 @@ pub mod Cells
 pub mod InPlace
 pub mod Parts
 pub mod Written
+pub mod Tails

@@ -1,4 +1,4 @@
--- A list with a part replaced, in the form in which a part `&mut t[a..e]` that was lent comes back: its length, the elements of the part, and the others. Assumes nothing.
+-- A list with a part replaced, in the form in which a part `&mut t[a..e]` that was lent comes back: the lengths of the part and of the list, the elements of the part, and the others. Assumes nothing.
 use mathlib.Core.Path.{_≡_, sym, ap, _∙_}
 use mathlib.Core.Logic.{_≢_}
 use mathlib.Core.List.{List, _++_}
@@ -14,6 +14,10 @@ abbrev pub withPart : {A : Type 0} → ℕ → ℕ → List A → List A → Lis
 withPart a k t r = take a t ++ (r ++ drop k (drop a t))
 
 module _ {A : Type 0} where
+  -- the part as it is lent
+  pub length-part : (a k : ℕ) (t : List A) → a + k ≤ length t → length (take k (drop a t)) ≡ k
+  length-part a k t h = length-take-le k (drop a t) (omega (arith, length-drop a t))
+
   pub length-withPart : (a k : ℕ) (t r : List A) → length r ≡ k → a + k ≤ length t → length (withPart a k t r) ≡ length t
   length-withPart a k t r e h =
       let l : length (take a t) ≡ a = length-take-le a t (omega arith) in

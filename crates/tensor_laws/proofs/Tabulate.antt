@@ -1,9 +1,11 @@
 -- The list f 0, f 1, .. f (n - 1): its length, its elements, and when two such lists are equal. Assumes nothing.
-use mathlib.Core.Path.{_≡_, refl, ap}
-use mathlib.Core.List.{List, [], _∷_}
-use Prim.Native.Nat.{ℕ, zero, suc, _*_, _<_, suc-le-suc}
-use native.Mathlib.Nat.{not-suc-le-zero, le-of-suc-le-suc, zero-lt-suc}
-use lib.ListN.{length, getD}
+use mathlib.Core.Path.{_≡_, refl, sym, ap, _∙_}
+use mathlib.Core.List.{List, [], _∷_, _++_}
+use Prim.Native.Nat.{ℕ, zero, suc, _+_, _-_, _*_, _≤_, _<_, suc-le-suc}
+use native.Mathlib.Nat.{not-suc-le-zero, le-of-suc-le-suc, zero-lt-suc, zero-add, suc-add, add-sub-of-le}
+use native.Mathlib.Omega.{arith}
+use lib.ListN.{length, getD, take}
+use lib.Seq.{take-at}
 use Rattle.tensor_laws.specs.Layout.{tabulate}
 
 module _ {A : Type 0} where
@@ -32,3 +34,22 @@ module _ {A : Type 0} where
 squares : tabulate 3 (λ (k : ℕ). k * k) ≡ 0 ∷ 1 ∷ 4 ∷ []
 unfolding tabulate
 squares = refl
+
+-- the first a elements, and those from a on
+pub tabulate-append : {A : Type 0} (a n : ℕ) (f : ℕ → A) → tabulate a f ++ tabulate n (λ j. f (a + j)) ≡ tabulate (a + n) f
+unfolding tabulate
+tabulate-append zero n f = (λ i. tabulate (sym (zero-add n) i) (λ j. f (zero-add j i)))
+tabulate-append {A} (suc a) n f =
+    ap (λ (r : List A). f 0 ∷ (tabulate a (λ k. f (suc k)) ++ r)) (λ i. tabulate n (λ j. f (suc-add a j i)))
+    ∙ ap (λ (r : List A). f 0 ∷ r) (tabulate-append a n (λ k. f (suc k)))
+    ∙ ap (λ (m : ℕ). tabulate m f) (sym (suc-add a n))
+
+pub take-tabulate : {A : Type 0} (n m : ℕ) (f : ℕ → A) → n ≤ m → take n (tabulate m f) ≡ tabulate n f
+take-tabulate {A} n m f h =
+    ap (take n) (sym (tabulate-append n (m - n) f ∙ ap (λ (k : ℕ). tabulate k f) (add-sub-of-le h)))
+    ∙ take-at (tabulate n f) (tabulate (m - n) (λ j. f (n + j))) n (length-tabulate n f)
+
+-- a list of no elements
+pub none-long : {A : Type 0} (t : List A) → length t ≡ 0 → t ≡ []
+none-long [] e = refl
+none-long (x ∷ t) e = absurd (omega arith)

@@ -1,4 +1,4 @@
--- A tensor in which some rows are written: its length and its cells, no row written, every row, rows written one after the other, and one row written where it stands. Assumes nothing.
+-- A tensor in which some rows are written: its length and its cells, no row written, every row, the same rows, rows written one after the other, and one row written where it stands. Assumes nothing.
 use mathlib.Core.Path.{_≡_, refl, sym, ap, _∙_}
 use mathlib.Core.Logic.{_≢_}
 use mathlib.Core.Bool.{Bool, true, false, cond, _||_}
@@ -56,6 +56,15 @@ module _ {A : Type 0} (rank batches heads len size : ℕ) where
         (λ b h s k hb hh hs hk. ap (λ (q : Bool). cond q (cell b h s k) (getD t (slot rank heads len b h s * size + k) d)) (e b h s hb hh hs))
 
   module _ (cell : ℕ → ℕ → ℕ → ℕ → A) (d : A) (t : List A) where
+    -- tests that agree write the same rows
+    pub written-same : (test test′ : ℕ → ℕ → ℕ → Bool)
+        → ((b h s : ℕ) → b < batches → h < heads → s < len → test b h s ≡ test′ b h s)
+        → writtenOf rank batches heads len size test cell d t ≡ writtenOf rank batches heads len size test′ cell d t
+    unfolding writtenOf
+    written-same test test′ e =
+        tensorOf-ext rank batches heads len size _ _
+        (λ b h s k hb hh hs hk. ap (λ (q : Bool). cond q (cell b h s k) (getD t (slot rank heads len b h s * size + k) d)) (e b h s hb hh hs))
+
     -- rows written one after the other
     pub written-again : (test test′ test″ : ℕ → ℕ → ℕ → Bool)
         → ((b h s : ℕ) → b < batches → h < heads → s < len → test″ b h s ≡ (test′ b h s || test b h s))

@@ -1,99 +1,223 @@
 -- `softmax::score_rows` meets its contract. The loop's invariant: the elements before j are the scores of their keys, the others are as they were. Assumes nothing.
-use mathlib.Core.Path.{_≡_, refl, ap, _∙_}
-use Prim.Native.Nat.{ℕ, _+_, _*_, _≤_, _-_}
+use mathlib.Core.Path.{_≡_, refl, sym, ap, _∙_, subst}
+use mathlib.Core.List.{List, _++_, append-nil}
+use Prim.Native.Nat.{ℕ, _+_, _*_, _-_, _^_, _≤_, _<_}
+use native.Mathlib.Nat.{add-mul}
 use native.Mathlib.Omega.{arith}
 use borrow.Author.Needs.{needs}
-use mathlib.Core.List.{List}
-use lib.ListN.{length, set}
-use lib.Ieee.{Float, binary32, mul, nan}
-use Rattle.tensor_laws.proofs.InPlace.{indexedTo, indexed-next, length-indexedTo, indexed-all}
-use Rattle.softmax.specs.Row.{scoreOf}
-use Rattle.softmax.specs.Lists.{elementOf, scoreRowsOf}
-use Rattle.softmax.proofs.Rows.{length-part, dot-part}
+use borrow.Rule.Slice.PartMut.{putMid}
+use lib.ListN.{length, take, drop}
+use lib.Seq.{drop-length}
+use lib.Ieee.{Float}
+use Rattle.tensor_laws.specs.Layout.{tabulate}
+use Rattle.tensor_laws.proofs.Tabulate.{length-tabulate, tabulate-append}
+use Rattle.tensor_laws.proofs.Parts.{withPart, length-part as length-middle}
+use Rattle.tensor_laws.proofs.Tails.{partOf, length-part, length-first, put-second}
+use Rattle.softmax.specs.Lists.{scoreRowsOf}
+use Rattle.softmax.proofs.Eight.{scoreOfKey, scores-from, scores-all, block-more}
 use Rattle.softmax.proofs.score_rows.Statement.{statement}
 use Rattle.softmax.proofs.score_rows.Tie as tie
 
--- what an element becomes: the score of key j
-abbrev eachOf : List Float → List Float → ℕ → Float → ℕ → Float → Float
-eachOf q keys stride scale j x = scoreOf (length q) (elementOf q) (λ c. elementOf keys (j * stride + c)) scale
-
 abbrev Inv-loop : tie.InvT-loop
-Inv-loop q keys stride scale out₀ j₀ out j = (j ≤ length out₀) × (out ≡ indexedTo (eachOf q keys stride scale) j out₀)
+Inv-loop q keys stride scale out₀ n j₀ out j = (j ≤ length out₀) × (out ≡ tabulate j (scoreOfKey q keys stride scale) ++ drop j out₀)
 
 abbrev μ-loop : tie.MeasureT-loop
-μ-loop q keys stride scale out₀ j₀ out j = length out₀ - j
+μ-loop q keys stride scale out₀ n j₀ out j = length out₀ - j
+
+abbrev At : Type 0
+At = tie.At-loop Inv-loop μ-loop
+
+abbrev startOf : At → tie.Start Inv-loop μ-loop
+startOf c = c .before .before .before .before
+
+-- the score of key j
+abbrev scoreAt : tie.Start Inv-loop μ-loop → ℕ → Float
+scoreAt c = let s = c .args in scoreOfKey (s .q .now) (s .keys .now) (s .stride) (s .scale)
 
 loop-holds : tie.Need-loop-holds Inv-loop μ-loop
+unfolding tabulate
 loop-holds c = (omega arith, refl)
 
--- the scores keep their number
-as-long : (c : tie.At-loop Inv-loop μ-loop) → length (c .loop .out) ≡ length (c .before .before .before .before .args .out .now)
-as-long c =
-    let s = c .before .before .before .before .args in
-    ap length (c .loop .inv .1) ∙ length-indexedTo (eachOf (s .q .now) (s .keys .now) (s .stride) (s .scale)) (c .loop .j) (s .out .now)
+-- the scores written so far
+written-long : (c : At) → length (tabulate (c .loop .j) (scoreAt (startOf c))) ≡ c .loop .j
+written-long c = length-tabulate (c .loop .j) (scoreAt (startOf c))
 
--- the row of key j is inside the keys
-inside : (c : tie.In-loop Inv-loop μ-loop) → let s = c .before .before .before .before .before .args in c .before .loop .j * s .stride + length (s .q .now) ≤ length (s .keys .now)
-inside c = let n = as-long (c .before) in c .before .before .before .before .before .pre (c .before .loop .j) (omega arith)
+-- the scores keep their number
+as-long : (c : At) → length (c .loop .out) ≡ length (startOf c .args .out .now)
+as-long c = ap length (c .loop .inv .1) ∙ length-first (c .loop .j) (startOf c .args .out .now) (tabulate (c .loop .j) (scoreAt (startOf c))) (written-long c) (c .loop .inv .0)
+
+room : (c : At) → length (c .loop .out) * 4 < 2 ^ 63
+room c = subst (λ (n : ℕ). n * 4 < 2 ^ 63) (sym (as-long c)) (startOf c .good .1 .1 .1 .1 .0 .1)
+
+-- the row of a key from key j on is inside the part of the keys that starts with key j
+inside : (c : At) (i : ℕ) → c .loop .j + i < length (startOf c .args .out .now) → let s = startOf c .args in c .loop .j * s .stride + (i * s .stride + length (s .q .now)) ≤ length (s .keys .now)
+inside c i l = let s = startOf c .args in omega (arith, startOf c .pre (c .loop .j + i) l, add-mul (c .loop .j) i (s .stride))
+
+-- key j starts inside the keys
+start-inside : (c : At) → c .loop .j < length (startOf c .args .out .now) → let s = startOf c .args in c .loop .j * s .stride ≤ length (s .keys .now)
+start-inside c l = let s = startOf c .args in omega (arith, startOf c .pre (c .loop .j) l)
+
+keys-room : (c : At) → length (startOf c .args .keys .now) * 4 < 2 ^ 63
+keys-room c = startOf c .good .1 .0 .1
+
+sub-loop : tie.Need-sub-loop Inv-loop μ-loop
+sub-loop c = omega arith
 
 mul-at : tie.Need-mul-at Inv-loop μ-loop
-mul-at c = let h = inside c in omega arith
+mul-at c = let a = c .before in omega (arith, start-inside a (omega arith), keys-room a)
 
-mul-dot : tie.Need-mul-dot Inv-loop μ-loop
-mul-dot c = let h = inside c in omega arith
+add-e : tie.Need-add-e Inv-loop μ-loop
+add-e c = omega (arith, room (c .before), as-long (c .before))
 
-sub-dot : tie.Need-sub-dot Inv-loop μ-loop
-sub-dot c = let h = inside c in omega arith
+mul-score-eight : tie.Need-mul-score-eight Inv-loop μ-loop
+mul-score-eight c = let a = c .before in omega (arith, start-inside a (omega arith), keys-room a)
 
-part-dot-start : tie.Need-part-dot-start Inv-loop μ-loop
-part-dot-start c = let h = inside c in omega arith
+sub-score-eight : tie.Need-sub-score-eight Inv-loop μ-loop
+sub-score-eight c = let a = c .before in omega (arith, start-inside a (omega arith))
 
-part-dot-end : tie.Need-part-dot-end Inv-loop μ-loop
-part-dot-end c = search needs
+part-score-eight-start : tie.Need-part-score-eight-start Inv-loop μ-loop
+part-score-eight-start c = let a = c .before in start-inside a (omega arith)
 
-dot-requires : tie.Need-dot-requires Inv-loop μ-loop
-dot-requires c κs =
-    let a = c .before .before in
-    let s = a .before .before .before .before .args in
-    let h = inside (c .before) in
-    omega (arith, length-part (a .loop .j * s .stride) (s .keys .now))
+part-score-eight-end : tie.Need-part-score-eight-end Inv-loop μ-loop
+part-score-eight-end c = search needs
 
-mul-out : tie.Need-mul-out Inv-loop μ-loop
-mul-out c = search needs
+mul-score-eight-2 : tie.Need-mul-score-eight-2 Inv-loop μ-loop
+mul-score-eight-2 c = let a = c .before .before in omega (arith, room a, as-long a)
 
-slice-write-out : tie.Need-slice-write-out Inv-loop μ-loop
-slice-write-out c = search needs
+sub-score-eight-2 : tie.Need-sub-score-eight-2 Inv-loop μ-loop
+sub-score-eight-2 c = search needs
 
-add-j : tie.Need-add-j Inv-loop μ-loop
-add-j c = omega arith
+part-score-eight-start-2 : tie.Need-part-score-eight-start-2 Inv-loop μ-loop
+part-score-eight-start-2 c = search needs
+
+part-score-eight-end-2 : tie.Need-part-score-eight-end-2 Inv-loop μ-loop
+part-score-eight-end-2 c = let a = c .before .before in omega (arith, as-long a)
+
+-- the part that is lent has eight elements
+part-eight : (c : tie.In-loop Inv-loop μ-loop) → let j = c .before .loop .j in length (take (j + 8 - j) (drop j (c .before .loop .out))) ≡ 8
+part-eight c =
+    let a = c .before in
+    let j = a .loop .j in
+    let e : j + 8 - j ≡ 8 = omega arith in
+    ap (λ (k : ℕ). length (take k (drop j (a .loop .out)))) e ∙ length-middle j 8 (a .loop .out) (omega (arith, as-long a))
+
+score-eight-requires : tie.Need-score-eight-requires Inv-loop μ-loop
+score-eight-requires c κs =
+    let t = c .before .before in
+    let a = t .before in
+    let s = startOf a .args in
+    (part-eight t, omega (arith, inside a 7 (omega arith), length-part (a .loop .j * s .stride) (s .keys .now)))
 
 loop-less : tie.Need-loop-less Inv-loop μ-loop
-loop-less c = let n = as-long (c .before .before .before) in omega arith
+loop-less c = let t = c .before .before .before .before .before in omega (arith, t .loop-test .taken)
 
 loop-again : tie.Need-loop-again Inv-loop μ-loop
-unfolding scoreOf
 loop-again c =
-    let a = c .before .before .before in
-    let s = a .before .before .before .before .args in
+    let r = c .before .before in
+    let t = r .before .before .before in
+    let a = t .before in
+    let start = startOf a in
+    let s = start .args in
     let j = a .loop .j in
-    let g = eachOf (s .q .now) (s .keys .now) (s .stride) (s .scale) in
-    let n = as-long a in (
-      omega arith,
-      ap (λ (x : Float). set (a .loop .out) j (mul binary32 x (s .scale))) (c .dot .ensures ∙ dot-part (s .q .now) (s .keys .now) (j * s .stride))
-          ∙ ap (λ (r : List Float). set r j (g j nan)) (a .loop .inv .1)
-          ∙ indexed-next g nan j (s .out .now) (omega arith),
+    let l : j + 8 ≤ length (s .out .now) = omega (arith, t .loop-test .taken) in (
+      l,
+      (λ i. withPart j (j + 8 - j) (a .loop .inv .1 i) ((r .score-eight .ensures ∙ scores-from (s .q .now) (s .keys .now) (s .stride) (s .scale) j 8) i))
+          ∙ block-more (scoreAt start) (s .out .now) j (j + 8 - j) 8 (omega arith) l,
     )
 
+-- ---- what is left
+
+mul-at-2 : tie.Need-mul-at-2 Inv-loop μ-loop
+mul-at-2 c = let a = c .before .before in omega (arith, start-inside a (c .if1 .taken), keys-room a)
+
+mul-score-few : tie.Need-mul-score-few Inv-loop μ-loop
+mul-score-few c = let a = c .before .before in omega (arith, start-inside a (c .if1 .taken), keys-room a)
+
+sub-score-few : tie.Need-sub-score-few Inv-loop μ-loop
+sub-score-few c = let a = c .before .before in omega (arith, start-inside a (c .if1 .taken))
+
+part-score-few-start : tie.Need-part-score-few-start Inv-loop μ-loop
+part-score-few-start c = let a = c .before .before in start-inside a (c .if1 .taken)
+
+part-score-few-end : tie.Need-part-score-few-end Inv-loop μ-loop
+part-score-few-end c = search needs
+
+mul-score-few-2 : tie.Need-mul-score-few-2 Inv-loop μ-loop
+mul-score-few-2 c = let a = c .before .before .before in omega (arith, room a, as-long a, c .before .if1 .taken)
+
+sub-score-few-2 : tie.Need-sub-score-few-2 Inv-loop μ-loop
+sub-score-few-2 c = let a = c .before .before .before in omega (arith, as-long a, c .before .if1 .taken)
+
+part-score-few-start-2 : tie.Need-part-score-few-start-2 Inv-loop μ-loop
+part-score-few-start-2 c = let a = c .before .before .before in omega (arith, as-long a, c .before .if1 .taken)
+
+part-score-few-end-2 : tie.Need-part-score-few-end-2 Inv-loop μ-loop
+part-score-few-end-2 c = search needs
+
+-- as many elements are left as there are keys
+rest-long : (c : At) → length (partOf (c .loop .j) (c .loop .out)) ≡ length (startOf c .args .out .now) - c .loop .j
+rest-long c = length-part (c .loop .j) (c .loop .out) ∙ ap (λ (n : ℕ). n - c .loop .j) (as-long c)
+
+score-few-requires : tie.Need-score-few-requires Inv-loop μ-loop
+score-few-requires c κs i l =
+    let t = c .before .before in
+    let a = t .before .before in
+    let s = startOf a .args in
+    omega (arith, inside a i (omega (arith, rest-long a)), length-part (a .loop .j * s .stride) (s .keys .now))
+
+-- all scores
+all-scores : tie.Start Inv-loop μ-loop → List Float
+all-scores c = let s = c .args in scoreRowsOf (s .q .now) (s .keys .now) (s .stride) (s .scale) (length (s .out .now))
+
+all-long : (c : tie.Start Inv-loop μ-loop) → length (all-scores c) ≡ length (c .args .out .now)
+unfolding all-scores
+all-long c =
+    let s = c .args in
+    ap length (sym (scores-all (s .q .now) (s .keys .now) (s .stride) (s .scale) (length (s .out .now)))) ∙ length-tabulate (length (s .out .now)) (scoreAt c)
+
+-- the scores before key j, and those from there on
+finished : (c : At) (rest : List Float) → let s = startOf c .args in rest ≡ scoreRowsOf (s .q .now) (partOf (c .loop .j * s .stride) (s .keys .now)) (s .stride) (s .scale) (length (partOf (c .loop .j) (c .loop .out)))
+    → putMid (c .loop .j) (length (c .loop .out) - c .loop .j) (c .loop .out) rest ≡ all-scores (startOf c)
+unfolding all-scores
+finished c rest e =
+    let start = startOf c in
+    let s = start .args in
+    let j = c .loop .j in
+    let n = length (s .out .now) - j in
+    let whole : j + n ≡ length (s .out .now) = omega (arith, c .loop .inv .0) in
+    ap (λ (o : List Float). putMid j (length o - j) o rest) (c .loop .inv .1)
+    ∙ put-second j (s .out .now) (tabulate j (scoreAt start)) (written-long c) (c .loop .inv .0) rest
+    ∙ ap (λ (r : List Float). tabulate j (scoreAt start) ++ r) (e ∙ scores-from (s .q .now) (s .keys .now) (s .stride) (s .scale) j (length (partOf j (c .loop .out))) ∙ ap (λ (m : ℕ). tabulate m (λ i. scoreAt start (j + i))) (rest-long c))
+    ∙ tabulate-append j n (scoreAt start)
+    ∙ ap (λ (m : ℕ). tabulate m (scoreAt start)) whole
+    ∙ scores-all (s .q .now) (s .keys .now) (s .stride) (s .scale) (length (s .out .now))
+
 same-length : tie.Need-same-length Inv-loop μ-loop
-same-length c = as-long (c .before)
+same-length c =
+    let f = c .before .before in
+    let a = f .before .before .before .before .before in
+    ap length (finished a (f .score-few .last .1 .1 .1 .1 .0) (f .score-few .ensures)) ∙ all-long (startOf a)
 
 returns : tie.Need-returns Inv-loop μ-loop
-unfolding scoreRowsOf
+unfolding all-scores
 returns c =
-    let a = c .before in
-    let s = a .before .before .before .before .args in
-    let n = as-long a in
-    a .loop .inv .1 ∙ indexed-all (eachOf (s .q .now) (s .keys .now) (s .stride) (s .scale)) nan (a .loop .j) (s .out .now) (omega arith)
+    let f = c .before .before in
+    finished (f .before .before .before .before .before) (f .score-few .last .1 .1 .1 .1 .0) (f .score-few .ensures)
+
+same-length-2 : tie.Need-same-length-2 Inv-loop μ-loop
+same-length-2 c = as-long (c .before .before)
+
+returns-2 : tie.Need-returns-2 Inv-loop μ-loop
+returns-2 c =
+    let a = c .before .before in
+    let start = startOf a in
+    let s = start .args in
+    let e : a .loop .j ≡ length (s .out .now) = omega (arith, a .loop .inv .0, c .if1 .left) in
+    a .loop .inv .1
+    ∙ (λ i. tabulate (e i) (scoreAt start) ++ drop (e i) (s .out .now))
+    ∙ ap (λ (r : List Float). tabulate (length (s .out .now)) (scoreAt start) ++ r) (drop-length (s .out .now))
+    ∙ append-nil (tabulate (length (s .out .now)) (scoreAt start))
+    ∙ scores-all (s .q .now) (s .keys .now) (s .stride) (s .scale) (length (s .out .now))
 
 pub score-rows-spec : {M : Type 1} → statement M
 score-rows-spec =
@@ -102,16 +226,31 @@ score-rows-spec =
     Inv-loop
     μ-loop
     loop-holds
+    sub-loop
     mul-at
-    mul-dot
-    sub-dot
-    part-dot-start
-    part-dot-end
-    dot-requires
-    mul-out
-    slice-write-out
-    add-j
+    add-e
+    mul-score-eight
+    sub-score-eight
+    part-score-eight-start
+    part-score-eight-end
+    mul-score-eight-2
+    sub-score-eight-2
+    part-score-eight-start-2
+    part-score-eight-end-2
+    score-eight-requires
     loop-less
     loop-again
+    mul-at-2
+    mul-score-few
+    sub-score-few
+    part-score-few-start
+    part-score-few-end
+    mul-score-few-2
+    sub-score-few-2
+    part-score-few-start-2
+    part-score-few-end-2
+    score-few-requires
     same-length
-    returns)
+    returns
+    same-length-2
+    returns-2)

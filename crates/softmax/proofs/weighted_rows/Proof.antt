@@ -9,7 +9,8 @@ use lib.Ieee.{Float, nan}
 use Rattle.tensor_laws.specs.Layout.{tabulate}
 use Rattle.tensor_laws.proofs.Tabulate.{length-tabulate, tabulate-getD}
 use Rattle.softmax.specs.Lists.{elementOf, accumulatedOf, accumulatedRowOf, weightedRowsOf}
-use Rattle.softmax.proofs.Rows.{partOf, length-part, columnOf, weighted-next}
+use Rattle.tensor_laws.proofs.Tails.{partOf, length-part}
+use Rattle.softmax.proofs.Rows.{columnOf, weighted-next}
 use Rattle.softmax.proofs.weighted_rows.Statement.{statement}
 use Rattle.softmax.proofs.weighted_rows.Tie as tie
 

@@ -1,0 +1,44 @@
+-- How many numbers pass a test: one by one, in two runs one after the other, by tests that agree, and at most. Assumes nothing.
+use mathlib.Core.Path.{_≡_, refl, sym, ap, _∙_}
+use mathlib.Core.Bool.{Bool, true, false}
+use Prim.Native.Nat.{ℕ, zero, suc, _+_, _≤_, _<_}
+use native.Mathlib.Nat.{le-refl, add-zero, add-suc, add-assoc}
+use native.Mathlib.Numerals.{add-one}
+use native.Mathlib.Omega.{arith}
+use lib.Dec.{lit≤}
+use Rattle.attention.specs.Outcomes.{tally, countWhere}
+
+-- none of no numbers
+pub count-start : (test : ℕ → Bool) → countWhere 0 test ≡ 0
+unfolding countWhere
+count-start test = refl
+
+-- one number more
+pub count-next : (n : ℕ) (test : ℕ → Bool) → countWhere (n + 1) test ≡ countWhere n test + tally (test n)
+unfolding countWhere
+count-next n test = ap (λ (m : ℕ). countWhere m test) (add-one n)
+
+-- the first a numbers, and those from a on
+pub count-runs : (a n : ℕ) (test : ℕ → Bool) → countWhere (a + n) test ≡ countWhere a test + countWhere n (λ i. test (a + i))
+unfolding countWhere
+count-runs a zero test = ap (λ (m : ℕ). countWhere m test) (add-zero a) ∙ sym (add-zero (countWhere a test))
+count-runs a (suc n) test =
+    ap (λ (m : ℕ). countWhere m test) (add-suc a n)
+    ∙ ap (λ (m : ℕ). m + tally (test (a + n))) (count-runs a n test)
+    ∙ add-assoc (countWhere a test) (countWhere n (λ i. test (a + i))) (tally (test (a + n)))
+
+-- tests that agree
+pub count-agree : (n : ℕ) (test test' : ℕ → Bool) → ((i : ℕ) → i < n → test i ≡ test' i) → countWhere n test ≡ countWhere n test'
+unfolding countWhere
+count-agree zero test test' e = refl
+count-agree (suc n) test test' e = (λ i. count-agree n test test' (λ k l. e k (omega arith)) i + tally (e n (le-refl (suc n)) i))
+
+pub tally-le : (t : Bool) → tally t ≤ 1
+tally-le true = lit≤ tt
+tally-le false = lit≤ tt
+
+-- no more pass than there are
+pub count-le : (n : ℕ) (test : ℕ → Bool) → countWhere n test ≤ n
+unfolding countWhere
+count-le zero test = lit≤ tt
+count-le (suc n) test = omega (arith, count-le n test, tally-le (test n))

@@ -1,0 +1,97 @@
+-- Eight sums at a time: a sum over the first elements of a row and of a key that starts at an index, one element more, the eight scores as a list, and scores in blocks. Assumes nothing.
+use mathlib.Core.Path.{_≡_, refl, sym, ap, _∙_}
+use mathlib.Core.List.{List, [], _∷_, _++_, append-assoc}
+use Prim.Native.Nat.{ℕ, _+_, _*_, _≤_}
+use native.Mathlib.Nat.{zero-mul, zero-add, add-mul}
+use native.Mathlib.Numerals.{add-one}
+use native.Mathlib.Omega.{arith}
+use lib.ListN.{length, drop, set}
+use lib.Seq.{take-at, drop-at, drop-drop}
+use lib.Ieee.{Float, nan, binary32, add, mul}
+use Rattle.exponential.specs.ExpNeg.{plusZero}
+use Rattle.tensor_laws.specs.Layout.{tabulate}
+use Rattle.tensor_laws.proofs.Tabulate.{length-tabulate, tabulate-ext, tabulate-append}
+use Rattle.tensor_laws.proofs.Parts.{withPart}
+use Rattle.tensor_laws.proofs.Tails.{partOf, getD-part}
+use Rattle.softmax.specs.Row.{dotOf, scoreOf}
+use Rattle.softmax.specs.Lists.{elementOf, scoreRowsOf}
+
+-- the dot product of the first i elements of a row and of a key that starts at an index
+abbrev pub sumTo : List Float → List Float → ℕ → ℕ → Float
+sumTo q keys at i = dotOf i (elementOf q) (λ c. elementOf keys (at + c))
+
+module _ (q keys : List Float) (at : ℕ) where
+  pub sum-start : plusZero ≡ sumTo q keys at 0
+  unfolding dotOf
+  sum-start = refl
+
+  -- one element more
+  pub sum-next : (i : ℕ) (x : Float) → x ≡ sumTo q keys at i → add binary32 x (mul binary32 (elementOf q i) (elementOf keys (at + i))) ≡ sumTo q keys at (i + 1)
+  unfolding dotOf
+  sum-next i x e = ap (λ (y : Float). add binary32 y (mul binary32 (elementOf q i) (elementOf keys (at + i)))) e ∙ ap (sumTo q keys at) (sym (add-one i))
+
+-- the same of the key that starts at 0
+pub sum-next-first : (q keys : List Float) (i : ℕ) (x : Float) → x ≡ sumTo q keys 0 i → add binary32 x (mul binary32 (elementOf q i) (elementOf keys i)) ≡ sumTo q keys 0 (i + 1)
+sum-next-first q keys i x e = ap (λ (n : ℕ). add binary32 x (mul binary32 (elementOf q i) (elementOf keys n))) (sym (zero-add i)) ∙ sum-next q keys 0 i x e
+
+-- a list of eight elements that are all written
+pub eight-written : (l : List Float) (a b c d e f g h : Float) → length l ≡ 8
+    → set (set (set (set (set (set (set (set l 0 a) 1 b) 2 c) 3 d) 4 e) 5 f) 6 g) 7 h ≡ a ∷ b ∷ c ∷ d ∷ e ∷ f ∷ g ∷ h ∷ []
+eight-written [] a b c d e f g h l = absurd (omega arith)
+eight-written (_ ∷ []) a b c d e f g h l = absurd (omega arith)
+eight-written (_ ∷ _ ∷ []) a b c d e f g h l = absurd (omega arith)
+eight-written (_ ∷ _ ∷ _ ∷ []) a b c d e f g h l = absurd (omega arith)
+eight-written (_ ∷ _ ∷ _ ∷ _ ∷ []) a b c d e f g h l = absurd (omega arith)
+eight-written (_ ∷ _ ∷ _ ∷ _ ∷ _ ∷ []) a b c d e f g h l = absurd (omega arith)
+eight-written (_ ∷ _ ∷ _ ∷ _ ∷ _ ∷ _ ∷ []) a b c d e f g h l = absurd (omega arith)
+eight-written (_ ∷ _ ∷ _ ∷ _ ∷ _ ∷ _ ∷ _ ∷ []) a b c d e f g h l = absurd (omega arith)
+eight-written (_ ∷ _ ∷ _ ∷ _ ∷ _ ∷ _ ∷ _ ∷ _ ∷ []) a b c d e f g h l = refl
+eight-written (_ ∷ _ ∷ _ ∷ _ ∷ _ ∷ _ ∷ _ ∷ _ ∷ _ ∷ t) a b c d e f g h l = absurd (omega arith)
+
+-- the score of the key that starts at an index
+abbrev pub scoreFrom : List Float → List Float → Float → ℕ → Float
+scoreFrom q keys scale at = mul binary32 (sumTo q keys at (length q)) scale
+
+-- the scores of eight keys
+pub eight-scores : (q keys : List Float) (stride : ℕ) (scale : Float)
+    → scoreFrom q keys scale 0 ∷ scoreFrom q keys scale stride ∷ scoreFrom q keys scale (2 * stride) ∷ scoreFrom q keys scale (3 * stride) ∷ scoreFrom q keys scale (4 * stride) ∷ scoreFrom q keys scale (5 * stride) ∷ scoreFrom q keys scale (6 * stride) ∷ scoreFrom q keys scale (7 * stride) ∷ []
+    ≡ scoreRowsOf q keys stride scale 8
+unfolding scoreRowsOf tabulate scoreOf
+eight-scores q keys stride scale =
+    let z : 0 ≡ 0 * stride = omega (arith, zero-mul stride) in
+    let o : stride ≡ 1 * stride = omega arith in
+    λ i. scoreFrom q keys scale (z i) ∷ scoreFrom q keys scale (o i) ∷ scoreFrom q keys scale (2 * stride) ∷ scoreFrom q keys scale (3 * stride) ∷ scoreFrom q keys scale (4 * stride) ∷ scoreFrom q keys scale (5 * stride) ∷ scoreFrom q keys scale (6 * stride) ∷ scoreFrom q keys scale (7 * stride) ∷ []
+
+-- ---- the keys in blocks
+
+-- the score of key j
+abbrev pub scoreOfKey : List Float → List Float → ℕ → Float → ℕ → Float
+scoreOfKey q keys stride scale j = scoreOf (length q) (elementOf q) (λ c. elementOf keys (j * stride + c)) scale
+
+-- the scores of the keys from key j on, as those of the part that starts with it
+pub scores-from : (q keys : List Float) (stride : ℕ) (scale : Float) (j n : ℕ) → scoreRowsOf q (partOf (j * stride) keys) stride scale n ≡ tabulate n (λ i. scoreOfKey q keys stride scale (j + i))
+unfolding scoreRowsOf
+scores-from q keys stride scale j n =
+    tabulate-ext n _ _ (λ i l k. scoreOf (length q) (elementOf q) (λ c. element-from i c k) scale)
+  where
+    element-from : (i c : ℕ) → elementOf (partOf (j * stride) keys) (i * stride + c) ≡ elementOf keys ((j + i) * stride + c)
+    element-from i c =
+        let e : j * stride + (i * stride + c) ≡ (j + i) * stride + c = omega (arith, add-mul j i stride) in
+        getD-part (j * stride) keys (i * stride + c) nan ∙ ap (elementOf keys) e
+
+-- the scores of all keys
+pub scores-all : (q keys : List Float) (stride : ℕ) (scale : Float) (n : ℕ) → tabulate n (scoreOfKey q keys stride scale) ≡ scoreRowsOf q keys stride scale n
+unfolding scoreRowsOf
+scores-all q keys stride scale n = refl
+
+-- a list whose first j elements are written, with a block of them more
+pub block-more : (f : ℕ → Float) (l : List Float) (j k n : ℕ) → k ≡ n → j + n ≤ length l
+    → withPart j k (tabulate j f ++ drop j l) (tabulate n (λ i. f (j + i))) ≡ tabulate (j + n) f ++ drop (j + n) l
+block-more f l j k n e h =
+    let first = tabulate j f in
+    let more = tabulate n (λ i. f (j + i)) in
+    let long : length first ≡ j = length-tabulate j f in
+    (λ i. take-at first (drop j l) j long i ++ (more ++ drop (e i) (drop-at first (drop j l) j long i)))
+    ∙ ap (λ (r : List Float). first ++ (more ++ r)) (drop-drop n j l)
+    ∙ sym (append-assoc first more (drop (j + n) l))
+    ∙ ap (λ (r : List Float). r ++ drop (j + n) l) (tabulate-append j n f)

@@ -1,0 +1,366 @@
+"""Stored vectors: lists and random generators of calls, with the answers and the bits of the C reference (reference/).
+
+    python3 tools/vectors.py vectors    crates/examples/proofs/Vectors.antt: random calls with their outcomes, as claims
+    python3 tools/vectors.py examples   crates/entry_examples/stdout: the calls of entry_examples.py with their outcomes
+"""
+
+import math
+import random
+import sys
+import textwrap
+from dataclasses import replace
+from itertools import product
+
+import entry_examples
+from calls import (INFINITY, LARGEST, LEAST, Inputs, Outputs, Record, call, f32, from_bits, full_mask_dims, input_lengths,
+                   lengths, output_lengths, to_bits)
+
+
+# Random tiny calls, accepted and refused
+
+BAD_ELEMENTS = math.nan, INFINITY, -INFINITY, 65536.0078125, -65536.0078125, LARGEST
+
+
+def element(rng):
+    """Mostly a number of few bits; sometimes a full significand, a zero, a subnormal or a largest element."""
+    few = rng.randint(-8, 8) / rng.choice((1, 4, 4))
+    full = f32(rng.uniform(-3, 3))
+    edge = rng.choice((-1, 1)) * rng.choice((0.0, LEAST, from_bits(rng.randint(1, 0x7FFFFF)), 65536.0))
+    return rng.choice((few, few, few, full, full, edge))
+
+
+def mask_element(rng):
+    return rng.choice((element(rng), element(rng), 0.0, -0.0, -LARGEST, LARGEST))
+
+
+def random_record(rng, **settings):
+    """A record that no refusal applies to, with these settings."""
+    key_heads = rng.choice((1, 1, 2))
+    r = replace(Record(
+        form=rng.choice(("plain", "cached", "counted")),
+        batch=rng.randint(1, 2),
+        query_heads=key_heads * rng.choice((1, 1, 2)),
+        key_heads=key_heads,
+        query_length=rng.randint(1, 3),
+        key_length=rng.randint(1, 3),
+        head_size=rng.randint(1, 2),
+        value_size=rng.randint(1, 2),
+        rank=rng.choice((3, 4)),
+        causal=rng.randint(0, 1),
+        mask_kind=rng.choice(("none", "boolean", "float")),
+        scale=rng.choice((None, 0.5, f32(rng.uniform(0.1, 2)))),
+        score_mode=rng.choice((None, 0, 1, 2, 3))), **settings)
+    if r.form == "cached":
+        r = replace(r, past_length=rng.randint(0, 3))
+    if r.mask_kind == "none":
+        return replace(r, mask_dims=tuple(rng.randint(0, 9) for _ in range(4)))
+    return replace(r, mask_dims=tuple(rng.choice((1, full, full)) for full in full_mask_dims(r)))
+
+
+def padded(r, inputs, row):
+    """Whether this row of K or V, counted as the tensor lies, belongs to a padded position."""
+    if r.form != "counted":
+        return False
+    b, rest = divmod(row, r.key_heads * r.key_length)
+    j = rest % r.key_length if r.rank == 4 else rest // r.key_heads
+    return j >= inputs.live[b]
+
+
+def random_inputs(rng, r):
+    """Inputs of the right lengths that are not refused; padded rows may hold anything."""
+    inputs = Inputs(*([element(rng) for _ in range(length)] for length in input_lengths(r)))
+    inputs = replace(
+        inputs,
+        boolean_mask=[rng.choice((0, 1, 1)) for _ in inputs.boolean_mask],
+        float_mask=[rng.choice((-INFINITY, mask_element(rng), mask_element(rng))) for _ in inputs.float_mask],
+        live=[rng.randint(0, r.total) for _ in inputs.live])
+    for tensor, size in (inputs.key, r.head_size), (inputs.value, r.value_size):
+        for index in range(len(tensor)):
+            if padded(r, inputs, index // size) and rng.random() < 0.5:
+                tensor[index] = rng.choice((math.nan, INFINITY, -INFINITY, 65537.0))
+    return inputs
+
+
+def lent(lengths_lent):
+    """Tensors of these lengths, each filled with a number of its own."""
+    fills = math.nan, INFINITY, -INFINITY, -0.0, 1.0
+    return Outputs(*([x] * length for x, length in zip(fills, lengths_lent)))
+
+
+def tiny_call(rng, most, **settings):
+    """A call that is accepted, with these settings and no tensor longer than that: its record, its inputs, and what it
+    lends for writing."""
+    while True:
+        r = random_record(rng, **settings)
+        if max(input_lengths(r) + output_lengths(r)) <= most and rng.randint(1, 3) <= r.total:
+            r = replace(r, scale=rng.choice([r.scale] * 6 + [1024.0, LEAST]))
+            return r, random_inputs(rng, r), lent(output_lengths(r))
+
+
+def setting(**settings):
+    return lambda rng, r, inputs, outputs: (replace(r, **settings), inputs, outputs)
+
+
+def mask_dim(place):
+    """One of the four mask dimensions 0 or above its full size."""
+    def change(rng, r, inputs, outputs):
+        dims = list(r.mask_dims)
+        dims[place] = rng.choice((0, full_mask_dims(r)[place] + 1))
+        return replace(r, mask_dims=tuple(dims)), inputs, outputs
+    return change
+
+
+def input_length(name):
+    """An input tensor with one element more or less."""
+    def change(rng, r, inputs, outputs):
+        tensor = getattr(inputs, name)
+        more = tensor + [1 if name in ("boolean_mask", "live") else 1.0]
+        return r, replace(inputs, **{name: tensor[1:] if tensor and rng.random() < 0.5 else more}), outputs
+    return change
+
+
+def output_length(place):
+    """An output tensor with one element more or less."""
+    def change(rng, r, inputs, outputs):
+        lengths_lent = lengths(outputs)
+        lengths_lent[place] += -1 if lengths_lent[place] and rng.random() < 0.5 else 1
+        return r, inputs, lent(lengths_lent)
+    return change
+
+
+def cell(name, bad):
+    """A random element of an input tensor, if it has any, replaced by a bad one."""
+    def change(rng, r, inputs, outputs):
+        tensor = list(getattr(inputs, name))
+        if tensor:
+            tensor[rng.randrange(len(tensor))] = rng.choice(bad(r))
+        return r, replace(inputs, **{name: tensor}), outputs
+    return change
+
+
+# ways in which each refusal comes to apply
+FAULTS = {
+    1: [setting(batch=0), setting(batch=9), setting(query_heads=33), setting(key_heads=0), setting(query_length=2049),
+        setting(key_length=0), setting(head_size=257), setting(value_size=0), setting(form="plain", past_length=1),
+        setting(form="counted", past_length=1), setting(form="cached", past_length=2047, key_length=2),
+        setting(form="cached", past_length=2 ** 64 - 1, key_length=1)],
+    2: [setting(query_heads=1, key_heads=2), setting(query_heads=3, key_heads=2), setting(query_heads=4, key_heads=3)],
+    3: [setting(rank=2), setting(rank=5), setting(causal=2), setting(score_mode=4), setting(scale=0.0),
+        setting(scale=-0.0), setting(scale=-LEAST), setting(scale=math.nan), setting(scale=INFINITY),
+        setting(scale=from_bits(0x44800001))],
+    4: [mask_dim(place) for place in range(4)],
+    5: [input_length(name) for name in vars(Inputs())],
+    6: [output_length(place) for place in range(5)],
+    7: [cell("live", lambda r: (-1, -2 ** 63)), cell("live", lambda r: (r.total + 1,)),
+        cell("live", lambda r: (2 ** 63 - 1,))],
+    8: [cell("boolean_mask", lambda r: (2, 255)), cell("float_mask", lambda r: (math.nan,)),
+        cell("float_mask", lambda r: (INFINITY,))],
+    9: [cell(name, lambda r: BAD_ELEMENTS) for name in ("query", "past_key", "key", "past_value", "value")],
+}
+
+
+def refused_call(rng, fault, number, later=0):
+    """A call that the fault makes refused with this number, and that would be refused with a later one without it."""
+    while True:
+        made = tiny_call(rng, most=6)
+        if later:
+            made = rng.choice(FAULTS[later])(rng, *made)
+        report, _ = call(*made)
+        made = fault(rng, *made)
+        report_with_fault, _ = call(*made)
+        if report[0] == later and report_with_fault[0] == number and report_with_fault != report:
+            return made
+
+
+def evenly(rng, count, *values):
+    """So many of these values, each about as often, in a random order."""
+    return rng.sample([values[n % len(values)] for n in range(count)], count)
+
+
+def accepted_calls(rng):
+    """Every form with every mask kind, each three times; the other settings spread evenly."""
+    shapes = list(product(("plain", "cached", "counted"), range(3), ("none", "boolean", "float")))
+    count = len(shapes)
+    spread = zip(shapes, evenly(rng, count, 3, 4), evenly(rng, count, 0, 1), evenly(rng, count, None, 0, 1, 2, 3),
+                 evenly(rng, count, (1, 1), (2, 1), (2, 2), (4, 2)), evenly(rng, count, 1, 2, 3))
+    for (form, _, kind), rank, causal, mode, (query_heads, key_heads), head_size in spread:
+        yield form, tiny_call(rng, most=18, form=form, mask_kind=kind, rank=rank, causal=causal, score_mode=mode,
+                              query_heads=query_heads, key_heads=key_heads, head_size=head_size)
+
+
+def refused_calls(rng):
+    """Every fault of every refusal, each third one beside a fault of a later refusal (of the last: of its own)."""
+    for number, faults in FAULTS.items():
+        for n, fault in enumerate(faults):
+            if n % 3 < 2:
+                yield f"refusal {number}", refused_call(rng, fault, number)
+            else:
+                later = rng.choice(range(number + 1, 10) or [9])
+                yield f"refusal {number}, beside a fault of {later}", refused_call(rng, fault, number, later)
+
+
+# The calls and their outcomes as claims about the definition
+
+HEADER = """-- Tiny random calls, accepted and refused: the definition of the call gives them the outcomes of a reference written from the rules. Floats are f32 bits.
+-- Made by `python3 tools/vectors.py vectors`. Assumes nothing.
+use mathlib.Core.Path.{refl}
+use mathlib.Core.List.{List, [], _∷_}
+use Prim.Native.Nat.{ℕ}
+use mathlib.Core.Bool.{true, false}
+use lib.IntN.{ℤ, pos, negsuc}
+use lib.ListN.{replicate}
+use lib.Ieee.{Float, nan, inf, fin, binary32, ofBits}
+use Rattle.exponential.specs.ExpNeg.{one}
+use Rattle.call.specs.declared.Call.{Call}
+use Rattle.call.specs.declared.Form.{Form}
+use Rattle.call.specs.declared.Form.the-variants.{Plain, Cached, Counted}
+use Rattle.call.specs.declared.MaskKind.{MaskKind}
+use Rattle.call.specs.declared.MaskKind.the-variants.{NoMask, Boolean, Float as FloatMask}
+use Rattle.call.specs.declared.Scale.{Scale}
+use Rattle.call.specs.declared.Scale.the-variants.{Absent, Given}
+use Rattle.call.specs.declared.ScoreMode.{ScoreMode}
+use Rattle.call.specs.declared.ScoreMode.the-variants.{NoScores, Mode}
+use Rattle.call.specs.declared.Answer.{Answer}
+use Rattle.call.specs.declared.Answer.the-variants.{Limits, HeadGroups, Settings, MaskShape, InputLength, OutputLength, LiveCount, MaskCell, Element}
+use Rattle.call.specs.Tensors.{Inputs, Outputs}
+use Rattle.attention.specs.Outcomes.{attentionOf}
+use Rattle.attention.specs.Calls.{tensors, done}
+use Rattle.attention.specs.Table.{Claim, outcome, AllHold}
+
+-- rank and causal flag; B, Hq, Hkv; Sq, Sk, P; D, Dv; the mask's dimensions
+abbrev call : Form → MaskKind → Scale → ScoreMode → (rank causal batches qheads kvheads qlen klen past size vsize maskb maskh maskq maskk : ℕ) → Call
+call form mask scale mode rank causal batches qheads kvheads qlen klen past size vsize maskb maskh maskq maskk = record {
+  form = form;
+  mask = mask;
+  scale = scale;
+  mode = mode;
+  rank = rank;
+  causal = causal;
+  batches = batches;
+  qheads = qheads;
+  kvheads = kvheads;
+  qlen = qlen;
+  klen = klen;
+  past = past;
+  size = size;
+  vsize = vsize;
+  maskb = maskb;
+  maskh = maskh;
+  maskq = maskq;
+  maskk = maskk;
+}
+
+unfoldable given : ℕ → Scale
+unfolding ofBits
+given bits = Given (ofBits binary32 bits)
+
+unfoldable floats : List ℕ → List Float
+unfolding ofBits
+floats [] = []
+floats (bits ∷ rest) = ofBits binary32 bits ∷ floats rest
+
+unfoldable reading : (query key value boolMask floatMask pastKey pastValue : List ℕ) → List ℤ → Inputs
+unfolding floats
+reading query key value boolMask floatMask pastKey pastValue live = record {
+  query = floats query;
+  key = floats key;
+  value = floats value;
+  boolMask = boolMask;
+  floatMask = floats floatMask;
+  pastKey = floats pastKey;
+  pastValue = floats pastValue;
+  live = live;
+}
+
+-- tensors of these lengths, each filled with a value of its own
+abbrev lent : (output presentKey presentValue scores work : ℕ) → Outputs
+lent output presentKey presentValue scores work = tensors (replicate output nan) (replicate presentKey (inf false)) (replicate presentValue (inf true)) (replicate scores (fin true 0 (pos 0))) (replicate work one)
+
+-- the call is accepted with T, the number of fully masked rows, and the five tensors
+unfoldable accepted : Call → Inputs → Outputs → (total masked : ℕ) → (output presentKey presentValue scores work : List ℕ) → Claim
+unfolding floats
+accepted c x y total masked output presentKey presentValue scores work =
+    outcome c x y (done total masked (tensors (floats output) (floats presentKey) (floats presentValue) (floats scores) (floats work)))
+
+-- the call is refused with this answer, and the tensors stay as they were lent
+abbrev refused : Call → Inputs → Outputs → Answer → Claim
+refused c x y answer = outcome c x y (record { answer = answer; tensors = y })
+
+unfoldable pub vectorTable : List Claim
+unfolding given reading accepted
+vectorTable ="""
+
+FOOTER = """
+-- every claim of the table holds
+pub vectors : AllHold vectorTable
+unfolding vectorTable attentionOf"""
+
+NO_BREAK = "\u00a0"
+FORM_TEXT = {"plain": "Plain", "cached": "Cached", "counted": "Counted"}
+KIND_TEXT = {"none": "NoMask", "boolean": "Boolean", "float": "FloatMask"}
+ANSWER_TEXT = ("Limits", "HeadGroups", "Settings", "MaskShape", "InputLength", "OutputLength", "(LiveCount {index})",
+               "(MaskCell {index})", "(Element {tensor} {index})")
+
+
+def list_text(words):
+    """A list; a line is not broken inside a short one."""
+    text = f"({' ∷ '.join([*words, '[]'])})" if words else "[]"
+    return text.replace(" ", NO_BREAK) if len(text) < 150 else text
+
+
+def bits_text(x):
+    return f"0x{0x7FC00000 if math.isnan(x) else to_bits(x):08x}"
+
+
+def tensors_text(tensors):
+    """The tensors of inputs or outputs, each as a list."""
+    def word(name, x):
+        if name == "live":
+            return f"pos {x}" if x >= 0 else f"negsuc {-x - 1}"
+        return str(x) if name == "boolean_mask" else bits_text(x)
+    return " ".join(list_text([word(name, x) for x in tensor]) for name, tensor in vars(tensors).items())
+
+
+def claim_text(r, inputs, outputs):
+    """A claim that the call has the outcome that the reference gives it, a line to each of its parts."""
+    (number, tensor, index, total, masked_rows), made = call(r, inputs, outputs)
+    scale = "Absent" if r.scale is None else f"(given {bits_text(r.scale)})"
+    mode = "NoScores" if r.score_mode is None else f"(Mode {r.score_mode})"
+    numbers = (r.rank, r.causal, r.batch, r.query_heads, r.key_heads, r.query_length, r.key_length, r.past_length,
+               r.head_size, r.value_size, *r.mask_dims)
+    if number == 0:
+        name, expected = "accepted", f"{total} {masked_rows} {tensors_text(made)}"
+    else:
+        name, expected = "refused", ANSWER_TEXT[number - 1].format(tensor=tensor, index=index)
+        assert tensors_text(made) == tensors_text(outputs)
+    return [f"{name} (call {FORM_TEXT[r.form]} {KIND_TEXT[r.mask_kind]} {scale} {mode} {' '.join(map(str, numbers))})",
+            f"(reading {tensors_text(inputs)})",
+            f"(lent {' '.join(map(str, lengths(outputs)))}) {expected}"]
+
+
+def print_indented(text):
+    lines = textwrap.wrap(text, 160, initial_indent="    ", subsequent_indent="    ", break_long_words=False)
+    print("\n".join(lines).replace(NO_BREAK, " "))
+
+
+def vectors(seed=242):
+    rng = random.Random(seed)
+    calls = [*accepted_calls(rng), *refused_calls(rng)]
+    print(HEADER)
+    above = None
+    for note, made in calls:
+        if note != above:
+            print_indented(f"-- {note}")
+        for line in claim_text(*made):
+            print_indented(f"∷ {line}" if above and line.startswith(("accepted", "refused")) else line)
+        above = note
+    print_indented("∷ []")
+    print(FOOTER)
+    print(f"vectors = {'(refl, ' * len(calls)}tt{')' * len(calls)}")
+
+
+if __name__ == "__main__":
+    commands = {"vectors": vectors, "examples": entry_examples.print_lines}
+    if len(sys.argv) != 2 or sys.argv[1] not in commands:
+        sys.exit(__doc__)
+    commands[sys.argv[1]]()
