@@ -1,0 +1,4 @@
+pub mod Starts
+pub mod Positions
+pub mod Heads
+pub mod Lengths
