@@ -1,0 +1,5 @@
+pub mod Masked
+pub mod MaskStart
+pub mod Weighed
+pub mod Added
+pub mod Shown

@@ -1,0 +1,107 @@
+-- What the steps of a row do to its lists: the run of positions that it may see, the mask on a row of scores, the scores shown, and the weighted sum over the positions that the mask leaves. Definitions only.
+use mathlib.Core.Path.{_≡_}
+use mathlib.Core.Bool.{Bool, true, false, not, _&&_, cond}
+use mathlib.Core.List.{List, _++_}
+use Prim.Native.Nat.{ℕ, zero, suc, _+_, _-_, _<_, _≤_}
+use lib.Dec.{eqb, leb}
+use lib.ListN.{length, getD, replicate}
+use lib.Ieee.{Float, binary32, add, mul}
+use Rattle.tensor_laws.specs.Layout.{tabulate}
+use Rattle.exponential.specs.ExpNeg.{plusZero}
+use Rattle.softmax.specs.Row.{addWhere}
+use Rattle.softmax.specs.Lists.{elementOf, hidden, isHidden, softmaxRowOf, maskedRowOf}
+use Rattle.call.specs.declared.Call.{Call}
+use Rattle.call.specs.declared.MaskKind.{MaskKind}
+use Rattle.call.specs.declared.MaskKind.the-variants.{NoMask, Boolean, Float as FloatMask}
+use Rattle.call.specs.declared.ScoreMode.{ScoreMode}
+use Rattle.call.specs.declared.ScoreMode.the-variants.{NoScores, Mode}
+use Rattle.attention.specs.Admission.{maskIndex}
+
+-- ---- the run of positions that row i may see
+
+-- The positions below the live count and, when causal, on or before the diagonal are a run from 0; this is its length.
+abbrev pub visibleOf : Call → (live i : ℕ) → ℕ
+visibleOf c live i =
+    let end = c .past + i + 1 in
+    cond (eqb (c .causal) 0) live (cond (leb live end) live end)
+
+-- ---- the mask
+
+-- where the mask's cells of row (b, h, i) start; without a mask its dimensions are not looked at
+abbrev pub maskStart : MaskKind → Call → (b h i : ℕ) → ℕ
+maskStart NoMask c b h i = 0
+maskStart Boolean c b h i = maskIndex c b h i 0
+maskStart FloatMask c b h i = maskIndex c b h i 0
+
+-- the mask has a cell at that index
+abbrev pub maskHas : MaskKind → (bytes cells at : ℕ) → Type 0
+maskHas NoMask bytes cells at = Unit
+maskHas Boolean bytes cells at = at < bytes
+maskHas FloatMask bytes cells at = at < cells
+
+-- the mask admits the key whose cell stands at that index
+abbrev pub admittedBy : MaskKind → List ℕ → List Float → ℕ → Bool
+admittedBy NoMask bytes cells at = true
+admittedBy Boolean bytes cells at = not (eqb (getD bytes at 0) 0)
+admittedBy FloatMask bytes cells at = not (isHidden (elementOf cells at))
+
+-- a score under the mask cell at that index: a boolean 0 hides it, and a float is added
+abbrev pub maskedBy : MaskKind → List ℕ → List Float → ℕ → Float → Float
+maskedBy NoMask bytes cells at s = s
+maskedBy Boolean bytes cells at s = cond (eqb (getD bytes at 0) 0) hidden s
+maskedBy FloatMask bytes cells at s = add binary32 s (elementOf cells at)
+
+-- the mask has the cells of n positions from the index on; a width of 1 is repeated
+abbrev pub maskRowFits : MaskKind → (bytes cells at width n : ℕ) → Type 0
+maskRowFits NoMask bytes cells at width n = Unit
+maskRowFits Boolean bytes cells at width n = (at < bytes) × ((width ≡ 1 → ⊥) → at + n ≤ bytes)
+maskRowFits FloatMask bytes cells at width n = (at < cells) × ((width ≡ 1 → ⊥) → at + n ≤ cells)
+
+-- every score of a row under the mask cell of its position
+unfoldable pub maskedRowBy : MaskKind → List ℕ → List Float → (ℕ → ℕ) → List Float → List Float
+unfolding tabulate add
+maskedRowBy kind bytes cells index row = tabulate (length row) (λ j. maskedBy kind bytes cells (index j) (elementOf row j))
+
+-- ---- the scores shown
+
+-- the mode is one of those from low to high
+abbrev pub showsOf : ScoreMode → (low high : ℕ) → Bool
+showsOf NoScores low high = false
+showsOf (Mode m) low high = leb low m && leb m high
+
+-- a row, and behind it as many times `rest` as n leaves
+abbrev pub paddedTo : ℕ → Float → List Float → List Float
+paddedTo n rest row = row ++ replicate (n - length row) rest
+
+-- what is shown after a step that shows the row where `on` holds
+abbrev pub shownWhere : Bool → Float → List Float → List Float → List Float
+shownWhere true rest row shown = paddedTo (length shown) rest row
+shownWhere false rest row shown = shown
+
+-- ---- softmax
+
+-- Steps 2 to 4 leave the weights of the scores under the mask and +0 behind them, n elements in all, and tell whether the scores are fully masked; modes 1 and 2 show the scores under the mask, and mode 3 the weights.
+pub record SoftmaxDone (mode : ScoreMode) (scores shown₀ : List Float) (n : ℕ) (shown work : List Float) (masked : Bool) : Type 0 where
+  pub weights : work ≡ paddedTo n plusZero (softmaxRowOf scores)
+  pub blind : masked ≡ maskedRowOf scores
+  pub shows : shown ≡ shownWhere (showsOf mode 3 3) plusZero work (shownWhere (showsOf mode 1 2) hidden scores shown₀)
+
+-- ---- the weighted sum
+
+-- e is the end of the run of seen positions that starts at j, among n: all of them are seen, and e is n or not seen
+pub record RunEnd (sees : ℕ → Bool) (j n e : ℕ) : Type 0 where
+  pub start : j ≤ e
+  pub inside : e ≤ n
+  pub seen : (k : ℕ) → j ≤ k → k < e → sees k ≡ true
+  pub stop : e < n → sees e ≡ false
+
+-- x with weight * value added for each seen position of n, rising
+unfoldable pub addedOf : ℕ → (ℕ → Bool) → (ℕ → Float) → (ℕ → Float) → Float → Float
+unfolding mul
+addedOf zero sees weight value x = x
+addedOf (suc n) sees weight value x = addWhere (sees n) (addedOf n sees weight value x) (mul binary32 (weight n) (value n))
+
+-- each column of the output row with the weighted values of the seen positions added
+unfoldable pub addedRowOf : ℕ → (ℕ → Bool) → (ℕ → Float) → (ℕ → ℕ → Float) → List Float → List Float
+unfolding tabulate addedOf
+addedRowOf n sees weight value out = tabulate (length out) (λ k. addedOf n sees weight (λ j. value j k) (elementOf out k))
