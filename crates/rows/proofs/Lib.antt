@@ -1,0 +1,6 @@
+pub mod Seen
+pub mod Row
+pub mod Runs
+pub mod Ready
+pub mod Assembled
+pub mod UnitRows

@@ -1,0 +1,401 @@
+// The rows of one query head: scores, mask, softmax and weighted sum, each row read and written where it stands.
+ghost use mathlib.Core.Path.{_≡_};
+ghost use mathlib.Core.Bool.{true, cond};
+ghost use Prim.Native.Nat.{ℕ, _+_, _/_, _-_, _≤_, _<_};
+ghost use lib.ListN.{length, replicate};
+ghost use Rattle.exponential.specs.ExpNeg.{plusZero};
+ghost use Rattle.tensor_laws.specs.Layout.{tabulate};
+ghost use Rattle.softmax.specs.Row.{scoreOf};
+ghost use Rattle.softmax.specs.Lists.{elementOf};
+ghost use Rattle.call.specs.Limits.{totalOf};
+ghost use Rattle.call.specs.Lengths.{outputLength, scoresLength, inScores};
+ghost use Rattle.call.specs.Tensors.{inputsOf};
+ghost use Rattle.attention.specs.Elements.{positionCell, keyHeadOf};
+ghost use Rattle.attention.specs.Admission.{repeated};
+ghost use Rattle.attention.specs.Formula.{effectiveScale};
+ghost use Rattle.attention.specs.Outcomes.{tally};
+ghost use Rattle.row_steps.specs.Steps.{maskHas, admittedBy, addedRowOf};
+ghost use Rattle.rows.specs.Unit.{Smaller, ScoresDone, Accepting, RunFits, RowDone, HeadDone};
+use call::Call;
+use call::Scale;
+use call::ScoreMode;
+use exponential::DefaultScale;
+
+// ---- once a call
+
+// The scale as given, or the default for the head size.
+pub fn effective_scale(call: Call) -> f32
+    ensures { λ r. ⌜ r ≡ effectiveScale call ⌝ }
+{
+    let scale = call.scale;
+    match scale {
+        Scale::Given(x) => x,
+        Scale::Absent => {
+            let default = exponential::default_scale(call.size);
+            match default {
+                DefaultScale::Scale(x) => x,
+                DefaultScale::NoScale => 0.0,
+            }
+        }
+    }
+}
+
+// ---- the scores of a row
+
+// The smaller of two numbers.
+fn smaller(a: usize, b: usize) -> usize
+    ensures { λ r. ⌜ Smaller a b r ⌝ }
+{
+    if a < b { a } else { b }
+}
+
+// The scores of the positions from `from` on, as many as the row has elements, all in one of the two tensors.
+fn score_run<'a>(
+    call: Call,
+    scale: f32,
+    q: &[f32],
+    past: &'a [f32],
+    incoming: &'a [f32],
+    b: usize,
+    g: usize,
+    from: usize,
+    row: &mut [f32],
+)
+    requires { ⌜ length (now q) ≡ call .size ⌝ }
+    requires { ⌜ RunFits call (length (now past)) (length (now incoming)) (call .size) b g from (length (now row)) ⌝ }
+    ensures { λ _. ⌜ now (row .exit) ≡ tabulate (length (now (row .entry))) (λ j. scoreOf (call .size) (elementOf (now (q .entry))) (positionCell call (now (past .entry)) (now (incoming .entry)) (call .size) b g (from + j)) scale) ⌝ }
+{
+    if row.len() == 0 {
+        return;
+    }
+    let size = call.size;
+    let keys = caches::rows_from(call, past, incoming, size, b, g, from);
+    let stride = caches::row_stride(call, size, from);
+    softmax::score_rows(q, keys, stride, scale, row);
+}
+
+// The scores of the positions from 0 on, as many as the row has elements: those of the past cache, then those of the incoming tensor.
+fn score_positions<'a>(
+    call: Call,
+    scale: f32,
+    q: &[f32],
+    past: &'a [f32],
+    incoming: &'a [f32],
+    b: usize,
+    g: usize,
+    row: &mut [f32],
+)
+    requires { ⌜ length (now q) ≡ call .size ⌝ }
+    requires { ⌜ RunFits call (length (now past)) (length (now incoming)) (call .size) b g (call .past) 0 ⌝ }
+    requires { ⌜ length (now row) ≤ totalOf call ⌝ }
+    ensures { λ _. ⌜ now (row .exit) ≡ tabulate (length (now (row .entry))) (λ j. scoreOf (call .size) (elementOf (now (q .entry))) (positionCell call (now (past .entry)) (now (incoming .entry)) (call .size) b g j) scale) ⌝ }
+{
+    let cut = smaller(call.past, row.len());
+    score_run(call, scale, q, past, incoming, b, g, 0, &mut row[..cut]);
+    score_run(call, scale, q, past, incoming, b, g, cut, &mut row[cut..]);
+}
+
+// Step 1 on a scratch row: the scores of the first m positions, shown where `dots` holds.
+fn score_row<'a>(
+    call: Call,
+    scale: f32,
+    q: &[f32],
+    past: &'a [f32],
+    incoming: &'a [f32],
+    b: usize,
+    g: usize,
+    dots: bool,
+    m: usize,
+    shown: &mut [f32],
+    work: &mut [f32],
+)
+    requires { ⌜ length (now q) ≡ call .size ⌝ }
+    requires { ⌜ RunFits call (length (now past)) (length (now incoming)) (call .size) b g (call .past) 0 ⌝ }
+    requires { ⌜ (m ≤ totalOf call) × (m ≤ length (now work)) × ((dots ≡ true) → m ≤ length (now shown)) ⌝ }
+    ensures { λ _. ⌜ ScoresDone m (λ j. scoreOf (call .size) (elementOf (now (q .entry))) (positionCell call (now (past .entry)) (now (incoming .entry)) (call .size) b g j) scale) dots (now (shown .entry)) (now (work .entry)) (now (shown .exit)) (now (work .exit)) ⌝ }
+{
+    score_positions(call, scale, q, past, incoming, b, g, &mut work[..m]);
+    row_steps::show(dots, &work[..m], 0.0, shown);
+}
+
+// ---- the weighted sum of a row
+
+// The output row with the weighted values of the admitted positions from `from` on added, as many as there are weights, all in one of the two tensors.
+fn weigh_run<'a>(
+    call: Call,
+    bytes: &[u8],
+    cells: &[f32],
+    at: usize,
+    past: &'a [f32],
+    incoming: &'a [f32],
+    b: usize,
+    g: usize,
+    from: usize,
+    weights: &[f32],
+    out: &mut [f32],
+)
+    requires { ⌜ length (now out) ≡ call .vsize ⌝ }
+    requires { ⌜ RunFits call (length (now past)) (length (now incoming)) (call .vsize) b g from (length (now weights)) ⌝ }
+    requires { ⌜ (at + from + length (now weights) < 0x100000000) × ((k : ℕ) → k < from + length (now weights) → maskHas (call .mask) (length (now bytes)) (length (now cells)) (at + repeated (call .maskk) k)) ⌝ }
+    ensures { λ _. ⌜ now (out .exit) ≡ addedRowOf (length (now (weights .entry))) (λ j. admittedBy (call .mask) (now (bytes .entry)) (now (cells .entry)) (at + repeated (call .maskk) (from + j))) (elementOf (now (weights .entry))) (λ j k. positionCell call (now (past .entry)) (now (incoming .entry)) (call .vsize) b g (from + j) k) (now (out .entry)) ⌝ }
+{
+    if weights.len() == 0 {
+        return;
+    }
+    let size = call.vsize;
+    let kind = call.mask;
+    let values = caches::rows_from(call, past, incoming, size, b, g, from);
+    let stride = caches::row_stride(call, size, from);
+    row_steps::weigh_admitted(
+        kind,
+        bytes,
+        cells,
+        at,
+        call.maskk,
+        from,
+        weights,
+        values,
+        stride,
+        out,
+    );
+}
+
+// The output row with the weighted values of the admitted positions from 0 on added, as many as there are weights: those of the past cache, then those of the incoming tensor.
+fn weigh_positions<'a>(
+    call: Call,
+    bytes: &[u8],
+    cells: &[f32],
+    at: usize,
+    past: &'a [f32],
+    incoming: &'a [f32],
+    b: usize,
+    g: usize,
+    weights: &[f32],
+    out: &mut [f32],
+)
+    requires { ⌜ length (now out) ≡ call .vsize ⌝ }
+    requires { ⌜ RunFits call (length (now past)) (length (now incoming)) (call .vsize) b g (call .past) 0 ⌝ }
+    requires { ⌜ length (now weights) ≤ totalOf call ⌝ }
+    requires { ⌜ (at + length (now weights) < 0x100000000) × ((k : ℕ) → k < length (now weights) → maskHas (call .mask) (length (now bytes)) (length (now cells)) (at + repeated (call .maskk) k)) ⌝ }
+    ensures { λ _. ⌜ now (out .exit) ≡ addedRowOf (length (now (weights .entry))) (λ j. admittedBy (call .mask) (now (bytes .entry)) (now (cells .entry)) (at + repeated (call .maskk) j)) (elementOf (now (weights .entry))) (λ j k. positionCell call (now (past .entry)) (now (incoming .entry)) (call .vsize) b g j k) (now (out .entry)) ⌝ }
+{
+    let cut = smaller(call.past, weights.len());
+    weigh_run(
+        call,
+        bytes,
+        cells,
+        at,
+        past,
+        incoming,
+        b,
+        g,
+        0,
+        &weights[..cut],
+        out,
+    );
+    weigh_run(
+        call,
+        bytes,
+        cells,
+        at,
+        past,
+        incoming,
+        b,
+        g,
+        cut,
+        &weights[cut..],
+        out,
+    );
+}
+
+// The output row: from +0, the weighted values of the admitted positions from 0 on, as many as there are weights.
+fn output_row<'a>(
+    call: Call,
+    bytes: &[u8],
+    cells: &[f32],
+    at: usize,
+    past: &'a [f32],
+    incoming: &'a [f32],
+    b: usize,
+    g: usize,
+    weights: &[f32],
+    out: &mut [f32],
+)
+    requires { ⌜ length (now out) ≡ call .vsize ⌝ }
+    requires { ⌜ RunFits call (length (now past)) (length (now incoming)) (call .vsize) b g (call .past) 0 ⌝ }
+    requires { ⌜ length (now weights) ≤ totalOf call ⌝ }
+    requires { ⌜ (at + length (now weights) < 0x100000000) × ((k : ℕ) → k < length (now weights) → maskHas (call .mask) (length (now bytes)) (length (now cells)) (at + repeated (call .maskk) k)) ⌝ }
+    ensures { λ _. ⌜ now (out .exit) ≡ addedRowOf (length (now (weights .entry))) (λ j. admittedBy (call .mask) (now (bytes .entry)) (now (cells .entry)) (at + repeated (call .maskk) j)) (elementOf (now (weights .entry))) (λ j k. positionCell call (now (past .entry)) (now (incoming .entry)) (call .vsize) b g j k) (replicate (call .vsize) plusZero) ⌝ }
+{
+    softmax::fill_row(out, 0.0);
+    weigh_positions(call, bytes, cells, at, past, incoming, b, g, weights, out);
+}
+
+// ---- one row
+
+// Query head h uses key head floor(h / (Hq / Hkv)).
+fn key_head(call: Call, h: usize) -> usize
+    requires { ⌜ (1 ≤ call .kvheads) × (1 ≤ call .qheads / call .kvheads) ⌝ }
+    ensures { λ r. ⌜ r ≡ keyHeadOf call h ⌝ }
+{
+    let group = call.qheads / call.kvheads;
+    h / group
+}
+
+// How many scores a row needs: those below the live count where mode 0 shows them, and the visible ones otherwise.
+fn scored(dots: bool, live: usize, n: usize) -> usize
+    ensures { λ r. ⌜ r ≡ cond dots live n ⌝ }
+{
+    if dots { live } else { n }
+}
+
+// Row (b, h, i): its output, what is shown of its scores, its weights in the scratch row, and whether it is fully masked.
+fn attend_row<'a>(
+    call: Call,
+    scale: f32,
+    b: usize,
+    h: usize,
+    i: usize,
+    query: &[f32],
+    key: &'a [f32],
+    value: &'a [f32],
+    boolmask: &[u8],
+    floatmask: &[f32],
+    pastkey: &'a [f32],
+    pastvalue: &'a [f32],
+    live: &[i64],
+    out: &mut [f32],
+    shown: &mut [f32],
+    work: &mut [f32],
+) -> bool
+    requires { ⌜ Accepting call (inputsOf (now query) (now key) (now value) (now boolmask) (now floatmask) (now pastkey) (now pastvalue) (now live)) scale ⌝ }
+    requires { ⌜ (b < call .batches) × (h < call .qheads) × (i < call .qlen) ⌝ }
+    requires { ⌜ (length (now out) ≡ call .vsize) × (length (now shown) ≡ inScores (call .mode) (totalOf call)) × (length (now work) ≡ totalOf call) ⌝ }
+    ensures { λ r. ⌜ RowDone call (inputsOf (now (query .entry)) (now (key .entry)) (now (value .entry)) (now (boolmask .entry)) (now (floatmask .entry)) (now (pastkey .entry)) (now (pastvalue .entry)) (now (live .entry))) b h i (now (out .exit)) (now (shown .exit)) (now (work .exit)) r ⌝ }
+{
+    let mode = call.mode;
+    let kind = call.mask;
+    let g = key_head(call, h);
+    let count = refusals::live_count(call, live, b);
+    let n = row_steps::visible(call, count, i);
+    let dots = row_steps::shows(mode, 0, 0);
+    let m = scored(dots, count, n);
+    let a = caches::row_start(call.rank, call.qheads, call.qlen, call.size, b, h, i);
+    let e = a + call.size;
+    score_row(
+        call,
+        scale,
+        &query[a..e],
+        pastkey,
+        key,
+        b,
+        g,
+        dots,
+        m,
+        shown,
+        work,
+    );
+    let at = row_steps::mask_start(call, b, h, i);
+    let masked = row_steps::softmax_masked(
+        kind,
+        boolmask,
+        floatmask,
+        at,
+        call.maskk,
+        mode,
+        n,
+        shown,
+        work,
+    );
+    output_row(
+        call,
+        boolmask,
+        floatmask,
+        at,
+        pastvalue,
+        value,
+        b,
+        g,
+        &work[..n],
+        out,
+    );
+    masked
+}
+
+// ---- the rows of one query head
+
+fn tally_of(t: bool) -> usize
+    ensures { λ r. ⌜ r ≡ tally t ⌝ }
+{
+    if t { 1 } else { 0 }
+}
+
+// How many scores are shown of a row.
+fn shown_width(call: Call) -> usize
+    requires { ⌜ totalOf call ≤ 2048 ⌝ }
+    ensures { λ r. ⌜ r ≡ inScores (call .mode) (totalOf call) ⌝ }
+{
+    let mode = call.mode;
+    match mode {
+        ScoreMode::NoScores => 0,
+        ScoreMode::Mode(_) => call.past + call.klen,
+    }
+}
+
+// The rows of query head h in batch b from `first` for `count`, written where they stand; the scratch row holds the weights of the last of them. Returns how many of them are fully masked.
+pub fn head_rows<'a>(
+    call: Call,
+    scale: f32,
+    b: usize,
+    h: usize,
+    first: usize,
+    count: usize,
+    query: &[f32],
+    key: &'a [f32],
+    value: &'a [f32],
+    boolmask: &[u8],
+    floatmask: &[f32],
+    pastkey: &'a [f32],
+    pastvalue: &'a [f32],
+    live: &[i64],
+    output: &mut [f32],
+    scores: &mut [f32],
+    work: &mut [f32],
+) -> usize
+    requires { ⌜ Accepting call (inputsOf (now query) (now key) (now value) (now boolmask) (now floatmask) (now pastkey) (now pastvalue) (now live)) scale ⌝ }
+    requires { ⌜ (b < call .batches) × (h < call .qheads) × (1 ≤ count) × (first + count ≤ call .qlen) ⌝ }
+    requires { ⌜ (length (now output) ≡ outputLength call) × (length (now scores) ≡ scoresLength call) × (length (now work) ≡ totalOf call) ⌝ }
+    ensures { λ r. ⌜ HeadDone call (inputsOf (now (query .entry)) (now (key .entry)) (now (value .entry)) (now (boolmask .entry)) (now (floatmask .entry)) (now (pastkey .entry)) (now (pastvalue .entry)) (now (live .entry))) b h first count (now (output .entry)) (now (scores .entry)) (now (output .exit)) (now (scores .exit)) (now (work .exit)) r ⌝ }
+{
+    let width = shown_width(call);
+    let end = first + count;
+    let mut masked = 0;
+    let mut i = first;
+    while i < end {
+        let ya = caches::row_start(call.rank, call.qheads, call.qlen, call.vsize, b, h, i);
+        let ye = ya + call.vsize;
+        let sa = caches::row_start(4, call.qheads, call.qlen, width, b, h, i);
+        let se = sa + width;
+        let t = attend_row(
+            call,
+            scale,
+            b,
+            h,
+            i,
+            query,
+            key,
+            value,
+            boolmask,
+            floatmask,
+            pastkey,
+            pastvalue,
+            live,
+            &mut output[ya..ye],
+            &mut scores[sa..se],
+            work,
+        );
+        masked = masked + tally_of(t);
+        i += 1;
+    }
+    masked
+}
