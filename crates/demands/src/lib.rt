@@ -1,0 +1,1 @@
+// Theorems alone: the three demands, over the contract of the entry.
