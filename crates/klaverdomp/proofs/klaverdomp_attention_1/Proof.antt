@@ -1,0 +1,59 @@
+-- `klaverdomp::klaverdomp_attention_1` meets its contract: the decoded call, the outcome of the entry, and the report of its answer. Assumes nothing.
+use mathlib.Core.Path.{_≡_, ap, _∙_}
+use Rattle.call.specs.declared.Answer.{Answer}
+use Rattle.call.specs.Answers.{Report, reportOf}
+use Rattle.call.specs.Tensors.{Outputs}
+use Rattle.attention.specs.Outcomes.{Outcome, outcomeOf}
+use Rattle.klaverdomp.specs.declared.Numbers.{Numbers}
+use Rattle.klaverdomp.specs.Returned.{reportIn, returned, returnedOf}
+use borrow.Author.Needs.{needs}
+use Rattle.klaverdomp.proofs.klaverdomp_attention_1.Statement.{statement}
+use Rattle.klaverdomp.proofs.klaverdomp_attention_1.Tie as tie
+
+-- the report of the answer and the tensors of an outcome are what is returned
+returned-is : (n : Numbers) (a : Answer) (t : Outputs) (o : Outcome) → reportIn n ≡ reportOf a → outcomeOf a t ≡ o → returned (n .number) (n .tensor) (n .index) (n .total) (n .masked) t ≡ returnedOf o
+returned-is n a t o p q = ap (λ (r : Report). record { report = r; tensors = t }) p ∙ ap returnedOf q
+
+decode-requires : tie.Need-decode-requires
+decode-requires c κs = search needs
+
+attention-requires : tie.Need-attention-requires
+attention-requires c κs = search needs
+
+report-requires : tie.Need-report-requires
+report-requires c κs = search needs
+
+same-length : tie.Need-same-length
+same-length c = search needs
+
+same-length-2 : tie.Need-same-length-2
+same-length-2 c = search needs
+
+same-length-3 : tie.Need-same-length-3
+same-length-3 c = search needs
+
+same-length-4 : tie.Need-same-length-4
+same-length-4 c = search needs
+
+same-length-5 : tie.Need-same-length-5
+same-length-5 c = search needs
+
+returns : tie.Need-returns
+returns c =
+    let a = c .before .before .before .before .before .before .before .before .before .before .before in
+    let d = a .before .before .before .before .before .before in
+    returned-is (c .report .result) (a .attention .result) _ _ (c .report .ensures) (rw (d .decode .ensures) at (a .attention .ensures))
+
+pub klaverdomp-attention-1-spec : {M : Type 1} → statement M
+klaverdomp-attention-1-spec =
+    tie.close
+    (tie.spec
+    decode-requires
+    attention-requires
+    report-requires
+    same-length
+    same-length-2
+    same-length-3
+    same-length-4
+    same-length-5
+    returns)

@@ -1,0 +1,27 @@
+-- `klaverdomp::klaverdomp_default_scale_1` meets its contract: each of the two answers is told as the definition says. Assumes nothing.
+use mathlib.Core.Path.{sym}
+use lib.Ieee.{ofBits}
+use borrow.Author.Needs.{needs}
+use Rattle.klaverdomp.proofs.klaverdomp_default_scale_1.Statement.{statement}
+use Rattle.klaverdomp.proofs.klaverdomp_default_scale_1.Tie as tie
+
+default-scale-requires : tie.Need-default-scale-requires
+default-scale-requires c κs = search needs
+
+enum-known-x : tie.Need-enum-known-x
+enum-known-x c = search needs
+
+enum-told : tie.Need-enum-told
+enum-told c = search needs
+
+returns : tie.Need-returns
+unfolding ofBits
+returns c = let x = c .before in rw (sym (x .before .before .default-scale .ensures), x .x .given .1)
+
+returns-2 : tie.Need-returns-2
+unfolding ofBits
+returns-2 c = rw (sym (c .before .before .default-scale .ensures), c .enum-told .given .1)
+
+pub klaverdomp-default-scale-1-spec : {M : Type 1} → statement M
+klaverdomp-default-scale-1-spec =
+    tie.close (tie.spec default-scale-requires enum-known-x enum-told returns returns-2)

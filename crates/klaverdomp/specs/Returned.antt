@@ -1,0 +1,55 @@
+-- What the exported functions give back: numbers behind references, with the tensors of a call or with one value. Definitions only.
+use Prim.Native.Nat.{ℕ}
+use lib.Ieee.{Float}
+use Rattle.call.specs.Answers.{Report, reportOf}
+use Rattle.call.specs.Tensors.{Outputs}
+use Rattle.attention.specs.Outcomes.{Outcome}
+use Rattle.exponential.specs.ExpNeg.{plusZero}
+use Rattle.exponential.specs.declared.Exponential.{Exponential}
+use Rattle.exponential.specs.declared.Exponential.the-variants.{Value, NoValue}
+use Rattle.exponential.specs.declared.PowerEntry.{PowerEntry}
+use Rattle.exponential.specs.declared.PowerEntry.the-variants.{Entry, NoEntry}
+use Rattle.exponential.specs.declared.DefaultScale.{DefaultScale}
+use Rattle.exponential.specs.declared.DefaultScale.the-variants.{Scale, NoScale}
+use Rattle.klaverdomp.specs.declared.Numbers.{Numbers}
+
+-- ---- a call
+
+abbrev pub reportFrom : (number tensor index total masked : ℕ) → Report
+reportFrom number tensor index total masked = record { number = number; tensor = tensor; index = index; total = total; masked = masked }
+
+abbrev pub reportIn : Numbers → Report
+reportIn n = reportFrom (n .number) (n .tensor) (n .index) (n .total) (n .masked)
+
+-- the report of the answer, and the tensors as they go out
+pub record Returned : Type 0 where
+  pub report : Report
+  pub tensors : Outputs
+
+abbrev pub returned : (number tensor index total masked : ℕ) → Outputs → Returned
+returned number tensor index total masked tensors = record { report = reportFrom number tensor index total masked; tensors = tensors }
+
+abbrev pub returnedOf : Outcome → Returned
+returnedOf o = record { report = reportOf (o .answer); tensors = o .tensors }
+
+-- ---- one value
+
+-- 1 and the value, or 0 and +0 where there is none
+pub record Told : Type 0 where
+  pub valued : ℕ
+  pub value : Float
+
+abbrev pub told : ℕ → Float → Told
+told valued value = record { valued = valued; value = value }
+
+abbrev pub exponentialTold : Exponential → Told
+exponentialTold (Value x) = told 1 x
+exponentialTold NoValue = told 0 plusZero
+
+abbrev pub powerTold : PowerEntry → Told
+powerTold (Entry x) = told 1 x
+powerTold NoEntry = told 0 plusZero
+
+abbrev pub scaleTold : DefaultScale → Told
+scaleTold (Scale x) = told 1 x
+scaleTold NoScale = told 0 plusZero

@@ -1,0 +1,234 @@
+//! The scope document's examples A to M, made by the library and by the reference.
+
+use crate::call::*;
+use crate::compare::{compare, Memory};
+use crate::ffi;
+use crate::random::Random;
+
+/// One batch, one head, D = Dv = 1, scale 1, rank 4, plain, no mask, weights shown.
+fn small(query: &[f32], key: &[f32], value: &[f32]) -> (Record, Inputs) {
+    let bits = |floats: &[f32]| floats.iter().map(|x| x.to_bits()).collect::<Vec<_>>();
+    let record = Record {
+        scale_kind: GIVEN,
+        score_mode: 3,
+        rank: 4,
+        batches: 1,
+        query_heads: 1,
+        key_heads: 1,
+        query_length: query.len() as u64,
+        key_length: key.len() as u64,
+        size: 1,
+        value_size: 1,
+        ..Record::default()
+    };
+    (record, Inputs { query: bits(query), key: bits(key), value: bits(value), ..Inputs::default() })
+}
+
+struct Examples {
+    memory: Memory,
+    random: Random,
+    made: u64,
+}
+
+struct Shown {
+    answer: Answer,
+    output: Vec<f32>,
+    present_key: Vec<f32>,
+    present_value: Vec<f32>,
+    scores: Vec<f32>,
+    work: Vec<f32>,
+}
+
+impl Examples {
+    fn make(&mut self, record: Record, inputs: Inputs) -> Result<Shown, String> {
+        self.make_lending(record, inputs, &record.lengths())
+    }
+
+    /// What is lent for writing has these lengths.
+    fn make_lending(&mut self, record: Record, inputs: Inputs, lengths: &Lengths) -> Result<Shown, String> {
+        let mut noise = |length: usize| (0..length).map(|_| self.random.bits32()).collect::<Vec<_>>();
+        let outputs = Outputs {
+            output: noise(lengths.output),
+            present_key: noise(lengths.present_key),
+            present_value: noise(lengths.present_value),
+            scores: noise(lengths.scores),
+            work: noise(lengths.work),
+        };
+        let call = Call { record: record.numbers().to_vec(), scale: 1f32.to_bits(), inputs, outputs };
+        let left = compare(&mut self.memory, &call, &mut self.random).map_err(|text| format!("{text}\n  {}", call.describe()))?;
+        let floats = |bits: &[u32]| bits.iter().map(|&b| f32::from_bits(b)).collect();
+        self.made += 1;
+        Ok(Shown {
+            answer: left.answer,
+            output: floats(&left.outputs.output),
+            present_key: floats(&left.outputs.present_key),
+            present_value: floats(&left.outputs.present_value),
+            scores: floats(&left.outputs.scores),
+            work: floats(&left.outputs.work),
+        })
+    }
+}
+
+fn expect(name: &str, holds: bool) -> Result<(), String> {
+    if holds { Ok(()) } else { Err(format!("example {name} does not come out as the scope document has it")) }
+}
+
+/// The same bits, so that -0 differs from +0.
+fn same(shown: &[f32], wanted: &[f32]) -> bool {
+    shown.iter().map(|x| x.to_bits()).eq(wanted.iter().map(|x| x.to_bits()))
+}
+
+fn done(total: u64, masked: u64) -> Answer {
+    Answer { total, masked, ..Answer::default() }
+}
+
+fn refused(refusal: u64, tensor: u64, index: u64) -> Answer {
+    Answer { refusal, tensor, index, ..Answer::default() }
+}
+
+fn masked(form: (Record, Inputs), cells: &[u8]) -> (Record, Inputs) {
+    let (record, inputs) = form;
+    let record = Record { mask_kind: BOOLEAN, mask_dims: [1, 1, 1, cells.len() as u64], ..record };
+    (record, Inputs { bool_mask: cells.to_vec(), ..inputs })
+}
+
+/// A to F.
+fn values(e: &mut Examples) -> Result<(), String> {
+    let (record, inputs) = small(&[2.0], &[3.0], &[5.0]);
+    for (score_mode, score) in [(0, 6.0), (1, 6.0), (2, 6.0), (3, 1.0)] {
+        let a = e.make(Record { score_mode, ..record }, inputs.clone())?;
+        let right = same(&a.output, &[5.0]) && same(&a.scores, &[score]) && same(&a.work, &[1.0]);
+        expect("A", right && a.answer == done(1, 0))?;
+    }
+    let two = || small(&[1.0], &[3.0, 3.0], &[2.0, 4.0]);
+    let (record, inputs) = two();
+    let b = e.make(record, inputs)?;
+    expect("B", same(&b.output, &[3.0]) && same(&b.work, &[0.5, 0.5]) && b.answer == done(2, 0))?;
+    for (cells, output, rows) in [([0, 0], 0.0, 1), ([1, 0], 2.0, 0)] {
+        let (record, inputs) = masked(two(), &cells);
+        let c = e.make(record, inputs)?;
+        expect("C", same(&c.output, &[output]) && c.answer == done(2, rows))?;
+    }
+    let (record, inputs) = small(&[1.0, 1.0], &[1.0, 1.0], &[6.0, 12.0]);
+    let d = e.make(Record { causal: 1, ..record }, inputs)?;
+    expect("D", same(&d.output, &[6.0, 9.0]) && d.answer == done(2, 0))?;
+    let (record, mut inputs) = small(&[1.0], &[1.0], &[12.0]);
+    inputs.past_key = vec![1f32.to_bits()];
+    inputs.past_value = vec![6f32.to_bits()];
+    let step = e.make(Record { causal: 1, form: CACHED, past: 1, ..record }, inputs)?;
+    let presents = same(&step.present_key, &[1.0, 1.0]) && same(&step.present_value, &[6.0, 12.0]);
+    expect("E", same(&step.output, &[9.0]) && presents && step.answer == done(2, 0))?;
+    let (record, inputs) = small(&[1.0], &[100.0, 0.0], &[8.0, 9.0]);
+    let f = e.make(record, inputs)?;
+    expect("F", same(&f.output, &[8.0]) && same(&f.work, &[1.0, 0.0]))?;
+    let (record, inputs) = small(&[1.0], &[83.0, 0.0], &[8.0, 9.0]);
+    expect("F", e.make(record, inputs)?.work[1] > 0.0)
+}
+
+/// A row with keys on both sides of the d from which on E is 0, all of them seen, and with every third one hidden.
+fn near_limit(e: &mut Examples) -> Result<(), String> {
+    let keys: Vec<f32> = (0..100).map(|n| if n == 0 { 0.0 } else { -83.0 - (n % 64) as f32 / 128.0 }).collect();
+    for hides in [false, true] {
+        let cells: Vec<u8> = (0..keys.len()).map(|n| u8::from(!hides || n % 3 != 2)).collect();
+        let (record, inputs) = masked(small(&[1.0], &keys, &[65536.0; 100]), &cells);
+        let work = e.make(record, inputs)?.work;
+        let above_zero = |n: usize| cells[n] == 1 && -keys[n] <= f32::from_bits(0x42A6_5AF6);
+        let right = |n: usize| if above_zero(n) { work[n] > 0.0 } else { work[n].to_bits() == 0 };
+        expect("F, as a row", work[0] == 1.0 && (0..keys.len()).all(right))?;
+    }
+    Ok(())
+}
+
+/// G and H.
+fn functions() -> Result<(), String> {
+    for (d, value) in [(0, 0x3F80_0000), (0x8000_0000, 0x3F80_0000), (0x3EB1_7218, 0x3F35_04F3), (0x3F31_7218, 0x3F00_0000)] {
+        expect("G", ffi::library_exp_neg(d) == (1, value))?;
+    }
+    for d in [0x42A6_5AF7, 0x7F80_0000] {
+        expect("G", ffi::library_exp_neg(d) == (1, 0))?;
+    }
+    let (there, value) = ffi::library_exp_neg(0x42A6_5AF6);
+    expect("G", there == 1 && f32::from_bits(value) > 0.0)?;
+    for d in [f32::NAN, -1.0, f32::NEG_INFINITY] {
+        expect("G", ffi::library_exp_neg(d.to_bits()) == (0, 0))?;
+    }
+    for (size, value) in [(4, 0.5f32), (16, 0.25), (64, 0.125), (256, 0.0625), (2, f32::from_bits(0x3F35_04F3))] {
+        expect("H", ffi::library_default_scale(size) == (1, value.to_bits()))?;
+    }
+    Ok(())
+}
+
+/// I to M.
+fn edges(e: &mut Examples) -> Result<(), String> {
+    let (record, inputs) = small(&[1.0; 4], &[1.0; 2], &[3.0, 5.0]);
+    let record = Record { query_heads: 4, key_heads: 2, query_length: 1, key_length: 1, ..record };
+    let i = e.make(record, inputs)?;
+    expect("I", same(&i.output, &[3.0, 3.0, 5.0, 5.0]) && i.answer == done(1, 0))?;
+    let (record, mut inputs) = small(&[2.0], &[3.0], &[5.0]);
+    let record = Record { mask_kind: FLOAT, mask_dims: [1; 4], ..record };
+    for (cell, weight, rows) in [(f32::MIN, 1.0, 0), (f32::NEG_INFINITY, 0.0, 1)] {
+        inputs.float_mask = vec![cell.to_bits()];
+        let j = e.make(record, inputs.clone())?;
+        expect("J", same(&j.work, &[weight]) && j.answer == done(1, rows))?;
+    }
+    elements(e)?;
+    lengths(e)?;
+    for causal in 0..2 {
+        let (record, mut inputs) = small(&[1.0, 1.0], &[1.0, 1.0], &[6.0, 12.0]);
+        for (count, answer) in [(0, done(2, 2)), (2, done(2, 0)), (3, refused(7, 0, 0)), (-1, refused(7, 0, 0))] {
+            inputs.live = vec![count];
+            expect("M", e.make(Record { form: COUNTED, causal, ..record }, inputs.clone())?.answer == answer)?;
+        }
+    }
+    Ok(())
+}
+
+fn elements(e: &mut Examples) -> Result<(), String> {
+    for x in [65536.0, -65536.0] {
+        let (record, inputs) = small(&[x], &[x], &[x]);
+        expect("K", e.make(record, inputs)?.answer == done(1, 0))?;
+    }
+    for x in [65536.0078125, -65536.0078125, f32::INFINITY, f32::NEG_INFINITY, f32::NAN] {
+        for (tensor, [q, k, v]) in [(0, [x, 3.0, 5.0]), (2, [2.0, x, 5.0]), (4, [2.0, 3.0, x])] {
+            let (record, inputs) = small(&[q], &[k], &[v]);
+            expect("K", e.make(record, inputs)?.answer == refused(9, tensor, 0))?;
+        }
+    }
+    for (count, answer) in [(1, done(2, 0)), (2, refused(9, 2, 1))] {
+        let (record, mut inputs) = small(&[1.0], &[1.0, f32::NAN], &[3.0, f32::NAN]);
+        inputs.live = vec![count];
+        expect("K", e.make(Record { form: COUNTED, ..record }, inputs)?.answer == answer)?;
+    }
+    Ok(())
+}
+
+fn lengths(e: &mut Examples) -> Result<(), String> {
+    let (record, mut inputs) = small(&[1.0], &[1.0], &[12.0]);
+    let record = Record { form: CACHED, causal: 1, ..record };
+    for (past, refusal) in [(2048, 1), (2047, 2)] {
+        let uneven = Record { past, query_heads: 4, key_heads: 3, ..record };
+        expect("L", e.make(uneven, inputs.clone())?.answer == refused(refusal, 0, 0))?;
+    }
+    inputs.past_key = vec![1f32.to_bits(); 2047];
+    inputs.past_value = vec![1f32.to_bits(); 2047];
+    expect("L", e.make(Record { past: 2047, ..record }, inputs)?.answer == done(2048, 0))?;
+    let (record, inputs) = small(&[1.0; 4], &[1.0; 3], &[1.0; 3]);
+    let record = Record { query_heads: 4, key_heads: 3, query_length: 1, key_length: 2049, ..record };
+    expect("L", e.make(record, inputs.clone())?.answer.refusal == 1)?;
+    expect("L", e.make(Record { key_length: 2048, ..record }, inputs)?.answer.refusal == 2)?;
+    let (record, inputs) = small(&[1.0], &[1.0; 2048], &[1.0; 2048]);
+    expect("L", e.make(record, inputs)?.answer.total == 2048)?;
+    let (record, inputs) = small(&[2.0], &[3.0], &[5.0]);
+    let short = Lengths { work: 0, ..record.lengths() };
+    expect("refusal 6", e.make_lending(record, inputs, &short)?.answer == refused(6, 0, 0))
+}
+
+/// All of them; how many calls that was.
+pub fn check() -> Result<u64, String> {
+    let mut e = Examples { memory: Memory::new(), random: Random::new(0, 0), made: 0 };
+    values(&mut e)?;
+    near_limit(&mut e)?;
+    functions()?;
+    edges(&mut e)?;
+    Ok(e.made)
+}

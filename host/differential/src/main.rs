@@ -1,0 +1,211 @@
+//! Differential tests of the static library: the scope document's examples, the exponential and the tables, random
+//! sequences, and random calls against the plain f32 reference (bit for bit) and the f64 program (within a bound).
+//!
+//!   klaverdomp-differential [--calls N] [--seed S] [--sessions N] [--exp-stride N] [--exact FILE]
+//!   klaverdomp-differential --seed S --only K        one random call again, with its parameters
+//!   klaverdomp-differential --seed S --only-session K
+//!
+//! The file has the lines that `tools/exponential_vectors.py lines` prints.
+//! The last line begins with `differential:`. The exit status is 0 exactly if nothing differs.
+
+mod accuracy;
+mod call;
+mod compare;
+mod coverage;
+mod exact;
+mod examples;
+mod exponential;
+mod ffi;
+mod generate;
+mod guard;
+mod lines;
+mod random;
+mod sequences;
+mod textbook;
+
+use accuracy::Accuracy;
+use compare::Memory;
+use coverage::Coverage;
+use random::Random;
+use std::process::ExitCode;
+use std::time::Instant;
+
+struct Options {
+    calls: u64,
+    seed: u64,
+    sessions: u64,
+    exp_stride: u64,
+    exact: Option<String>,
+    only: Option<u64>,
+    only_session: Option<u64>,
+}
+
+impl Options {
+    fn read(words: impl Iterator<Item = String>) -> Result<Options, String> {
+        let mut options = Options {
+            calls: 300_000,
+            seed: 1,
+            sessions: 3_000,
+            exp_stride: 61,
+            exact: None,
+            only: None,
+            only_session: None,
+        };
+        let mut words = words;
+        while let Some(word) = words.next() {
+            let value = words.next().ok_or(format!("{word} wants a value"))?;
+            if word == "--exact" {
+                options.exact = Some(value);
+                continue;
+            }
+            let number = value.parse::<u64>().map_err(|_| format!("{word} wants a number"))?;
+            match word.as_str() {
+                "--calls" => options.calls = number,
+                "--seed" => options.seed = number,
+                "--sessions" => options.sessions = number,
+                "--exp-stride" => options.exp_stride = number.max(1),
+                "--only" => options.only = Some(number),
+                "--only-session" => options.only_session = Some(number),
+                _ => return Err(format!("no option {word}")),
+            }
+        }
+        Ok(options)
+    }
+}
+
+/// What the random calls came to.
+#[derive(Default)]
+struct Tally {
+    coverage: Coverage,
+    accuracy: Accuracy,
+}
+
+fn random_call(seed: u64, number: u64, memory: &mut Memory, tally: &mut Tally) -> Result<(), String> {
+    let mut random = Random::new(seed, number);
+    let call = generate::random_call(&mut random);
+    guard::note(guard::Part::Call, seed, number);
+    let at = |text: String| format!("call {number}: {text}\n  {}\n  replay with --seed {seed} --only {number}", call.describe());
+    let left = compare::compare(memory, &call, &mut random).map_err(at)?;
+    tally.coverage.add(&call, &left.answer);
+    if left.answer.refusal == 0 {
+        let accuracy = accuracy::check(&call, &left.outputs, &left.answer, number).map_err(at)?;
+        tally.accuracy.join(&accuracy);
+    }
+    Ok(())
+}
+
+/// A session has the numbers from 2^63 on, so that it has nothing in common with a random call.
+fn session(seed: u64, number: u64, memory: &mut Memory, counts: &mut sequences::Counts) -> Result<(), String> {
+    let mut random = Random::new(seed, (1 << 63) + number);
+    guard::note(guard::Part::Session, seed, number);
+    sequences::session(&mut random, memory, counts)
+        .map_err(|text| format!("session {number}: {text}\n  replay with --seed {seed} --only-session {number}"))
+}
+
+fn replay_call(seed: u64, number: u64) -> Result<String, String> {
+    let mut tally = Tally::default();
+    let call = generate::random_call(&mut Random::new(seed, number));
+    println!("call {number}: {}", call.describe());
+    println!("  the reference answers {:?}", compare::by_reference(&call).0);
+    random_call(seed, number, &mut Memory::new(), &mut tally)?;
+    Ok("differential: 1 call compared, no difference".to_string())
+}
+
+fn replay_session(seed: u64, number: u64) -> Result<String, String> {
+    let mut counts = sequences::Counts::default();
+    session(seed, number, &mut Memory::new(), &mut counts)?;
+    Ok(format!("differential: 1 session of {} chunks compared, no difference", counts.accepted + counts.refused))
+}
+
+fn say_tally(tally: &Tally, seconds: f64) {
+    let accuracy = &tally.accuracy;
+    println!("calls: {}; {seconds:.1} s", tally.coverage.describe());
+    println!(
+        "f64 program: {} rows, {} of them loose; largest output error {:.3e} of its sum of |weight * value| (call {}), \
+         {:.3e} where scores are at most 16 (call {}), largest weight error {:.3e} (call {}), largest part of the bound {:.3} (call {})",
+        accuracy.rows, accuracy.loose_rows, accuracy.output_error, accuracy.output_error_call, accuracy.ordinary_error,
+        accuracy.ordinary_error_call, accuracy.weight_error, accuracy.weight_error_call, accuracy.bound_used, accuracy.bound_used_call
+    );
+}
+
+fn exact_lines(path: &str) -> Result<lines::Counts, String> {
+    let text = std::fs::read_to_string(path).map_err(|error| format!("{path}: {error}"))?;
+    let counts = lines::check(&text).map_err(|error| format!("{path}: {error}"))?;
+    println!(
+        "exact lines: {} values of E, {} row elements, {} power entries, {} default scales",
+        counts.values, counts.row_elements, counts.powers, counts.scales
+    );
+    Ok(counts)
+}
+
+fn run(options: &Options) -> Result<String, String> {
+    let seed = options.seed;
+    if let Some(number) = options.only {
+        return replay_call(seed, number);
+    }
+    if let Some(number) = options.only_session {
+        return replay_session(seed, number);
+    }
+    guard::note(guard::Part::Other, seed, 0);
+    let examples = examples::check().map_err(|text| format!("examples: {text}"))?;
+    println!("examples: {examples} calls");
+
+    let start = Instant::now();
+    let exp = exponential::check(seed, options.exp_stride, 300_000, 3_000).map_err(|text| format!("exponential: {text}"))?;
+    println!(
+        "exponential: {} of 2^32 patterns, {} values in whole numbers, {} row elements, {} table arguments; {:.1} s",
+        exp.patterns, exp.exact, exp.row_elements, exp.entries, start.elapsed().as_secs_f64()
+    );
+
+    let lines = options.exact.as_deref().map_or(Ok(lines::Counts::default()), exact_lines)?;
+
+    let (start, mut memory) = (Instant::now(), Memory::new());
+    let mut sessions = sequences::Counts::default();
+    for number in 0..options.sessions {
+        session(seed, number, &mut memory, &mut sessions)?;
+    }
+    println!(
+        "sequences: {} sessions, {} chunks accepted and {} refused, {} positions, {} at most; {:.1} s",
+        sessions.sessions, sessions.accepted, sessions.refused, sessions.positions, sessions.longest, start.elapsed().as_secs_f64()
+    );
+
+    let (start, mut tally) = (Instant::now(), Tally::default());
+    for number in 0..options.calls {
+        random_call(seed, number, &mut memory, &mut tally)?;
+    }
+    say_tally(&tally, start.elapsed().as_secs_f64());
+    let missing = tally.coverage.missing();
+    if options.calls >= 200_000 && !missing.is_empty() {
+        return Err(format!("the run did not reach {}", missing.join(", ")));
+    }
+    Ok(format!(
+        "differential: {} calls compared, {} accepted, {} chunks of {} sessions, {} values of E, 0 differences",
+        options.calls, tally.coverage.answers[0], sessions.accepted + sessions.refused, sessions.sessions,
+        exp.patterns + exp.exact + lines.values
+    ))
+}
+
+fn main() -> ExitCode {
+    guard::report_touches();
+    match Options::read(std::env::args().skip(1)).and_then(|options| run(&options)) {
+        Ok(text) => {
+            println!("{text}");
+            ExitCode::SUCCESS
+        }
+        Err(text) => {
+            println!("{text}\ndifferential: failed, stopped at what is said above");
+            ExitCode::FAILURE
+        }
+    }
+}
+
+#[cfg(test)]
+mod tests {
+    use super::*;
+
+    #[test]
+    fn a_short_run_finds_no_difference() {
+        let words = "--calls 3000 --seed 7 --sessions 50 --exp-stride 100003".split(' ').map(String::from);
+        run(&Options::read(words).unwrap()).unwrap();
+    }
+}

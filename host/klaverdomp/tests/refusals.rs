@@ -1,0 +1,139 @@
+// Refusals: their numbers, places and words, and that they change nothing.
+
+mod common;
+
+use common::{bits, refused};
+use klaverdomp::{attention, explain, Buffers, Call, Form, Inputs, Outputs};
+
+/// A call of two batches with every kind of tensor that a cached call can have, and its inputs.
+fn call() -> Call {
+    Call::cached(2, 1).with_batches(2).with_float_mask([1, 1, 1, 3]).with_scores(0)
+}
+
+const INPUTS: Inputs = Inputs {
+    query: &[1.0, 2.0],
+    key: &[1.0, 2.0],
+    value: &[1.0, 2.0],
+    boolean_mask: &[],
+    float_mask: &[0.0, 0.5, f32::NEG_INFINITY],
+    past_key: &[1.0, 2.0, 3.0, 4.0],
+    past_value: &[1.0, 2.0, 3.0, 4.0],
+    live: &[],
+};
+
+#[test]
+fn each_refusal_in_words() {
+    let cases: [(Call, Inputs, &str); 12] = [
+        (call().with_batches(9), INPUTS, "refusal 1: a dimension or the total length is outside its limits"),
+        (call().with_heads(1, 2), INPUTS, "refusal 2: the number of query heads is not a multiple"),
+        (call().with_rank(5), INPUTS, "refusal 3: the rank is not 3 or 4"),
+        (call().with_float_mask([1, 1, 1, 2]), INPUTS, "refusal 4: a mask dimension is neither 1 nor its full size"),
+        (call(), Inputs { live: &[1, 1], ..INPUTS }, "refusal 5: an input tensor has the wrong length"),
+        (
+            Call { form: Form::Counted, past: 0, mask: klaverdomp::MaskKind::None, ..call() },
+            Inputs { float_mask: &[], past_key: &[], past_value: &[], live: &[1, 2], ..INPUTS },
+            "refusal 7: live count 1 is below 0 or above the total length",
+        ),
+        (
+            call(),
+            Inputs { float_mask: &[0.0, f32::NAN, 0.0], ..INPUTS },
+            "refusal 8: element 1 of the mask is a byte above 1, a NaN or plus",
+        ),
+        (call(), Inputs { query: &[1.0, f32::NAN], ..INPUTS }, "refusal 9: element 1 of the query is not a number of magnitude"),
+        (call(), Inputs { past_key: &[1.0, 2.0, 3.0, 1e9], ..INPUTS }, "refusal 9: element 3 of the past key is not"),
+        (call(), Inputs { key: &[-65_537.0, 0.0], ..INPUTS }, "refusal 9: element 0 of the key is not"),
+        (
+            call(),
+            Inputs { past_value: &[1.0, 2.0, f32::INFINITY, 4.0], ..INPUTS },
+            "refusal 9: element 2 of the past value is not",
+        ),
+        (call(), Inputs { value: &[1.0, f32::NEG_INFINITY], ..INPUTS }, "refusal 9: element 1 of the value is not"),
+    ];
+    for (call, inputs, words) in cases {
+        let refusal = refused(&call, &inputs);
+        assert!(refusal.to_string().starts_with(words), "{refusal} is not {words}");
+    }
+    let refusal = attention(&call(), &INPUTS, &mut Outputs::default()).unwrap_err();
+    assert!(refusal.to_string().starts_with("refusal 6: the output, a present cache, the scores or the work row"));
+    let error: Box<dyn std::error::Error> = Box::new(refusal);
+    assert_eq!(error.to_string(), refusal.to_string());
+}
+
+#[test]
+fn explanations_name_what_is_wrong() {
+    let cases: [(Call, Inputs, &str); 9] = [
+        (Call::plain(0, 1).with_size(257), INPUTS, "the query length is 0, and 1 to 2048 is allowed\n  the head size is 257"),
+        (Call { past: 4, ..Call::plain(1, 1) }, INPUTS, "the past length is 4, and the call is not cached"),
+        (Call::cached(2048, 1), INPUTS, "past 2048 and key length 1 are more than 2048 together"),
+        (call().with_heads(4, 3), INPUTS, "4 query heads, 3 key heads"),
+        (call().with_scale(-1.0).with_scores(255), INPUTS, "the score mode is 255\n  the scale is -1"),
+        (call().with_float_mask([1, 1, 4, 3]), INPUTS, "the mask is (1, 1, 4, 3), and the full size"),
+        (call(), Inputs { key: &[1.0], ..INPUTS }, "key: 1 elements lent, 2 expected"),
+        (call(), Inputs { float_mask: &[0.0, f32::INFINITY, 0.0], ..INPUTS }, "it is inf"),
+        (call(), Inputs { value: &[0.0, 70_000.0], ..INPUTS }, "it is 70000.0"),
+    ];
+    for (call, inputs, words) in cases {
+        let mut buffers = Buffers::new(&call);
+        let mut outputs = buffers.lend();
+        let refusal = attention(&call, &inputs, &mut outputs).unwrap_err();
+        let text = explain(&call, &inputs, &outputs, &refusal);
+        assert!(text.contains(words), "{text} has not {words}");
+    }
+    let refusal = attention(&call(), &INPUTS, &mut Outputs::default()).unwrap_err();
+    let text = explain(&call(), &INPUTS, &Outputs::default(), &refusal);
+    assert!(text.contains("present key: 0 elements lent, 6 expected"));
+}
+
+#[test]
+fn a_refused_call_keeps_every_bit_of_the_outputs() {
+    // payloads of NaNs among them
+    let pattern = |n: usize| -> Vec<f32> { (0..n).map(|i| f32::from_bits(0x7FA0_0001 + i as u32 * 0x0101_0101)).collect() };
+    let lengths = call().lengths();
+    let lent = [lengths.output, lengths.present_key, lengths.present_value, lengths.scores, lengths.work].map(pattern);
+    let [mut output, mut present_key, mut present_value, mut scores, mut work] = lent.clone();
+    let mut outputs = Outputs {
+        output: &mut output,
+        present_key: &mut present_key,
+        present_value: &mut present_value,
+        scores: &mut scores,
+        work: &mut work,
+    };
+    let cases = [
+        (call().with_batches(9), INPUTS),
+        (call().with_heads(1, 2), INPUTS),
+        (call().with_scale(0.0), INPUTS),
+        (call().with_float_mask([2, 1, 2, 3]), INPUTS),
+        (call(), Inputs { boolean_mask: &[0], ..INPUTS }),
+        (call(), Inputs { float_mask: &[f32::INFINITY; 3], ..INPUTS }),
+        (call(), Inputs { value: &[0.0, f32::NAN], ..INPUTS }),
+    ];
+    for (call, inputs) in cases {
+        attention(&call, &inputs, &mut outputs).unwrap_err();
+    }
+    let after = [output, present_key, present_value, scores, work];
+    for (after, lent) in after.iter().zip(&lent) {
+        assert_eq!(bits(after), bits(lent));
+    }
+}
+
+#[test]
+fn any_mode_and_causal_flag_gets_an_answer() {
+    for mode in 0..4 {
+        assert_eq!(
+            attention(&call().with_scores(mode), &INPUTS, &mut Buffers::new(&call().with_scores(mode)).lend()).unwrap().total,
+            3
+        );
+    }
+    for mode in [4, 255, 256, u64::MAX] {
+        assert_eq!(refused(&call().with_scores(mode), &INPUTS).number, 3);
+    }
+    for causal in [2, 255, u64::MAX] {
+        assert_eq!(refused(&Call { causal, ..call() }, &INPUTS).number, 3);
+    }
+    for scale in [0.0, -0.0, -1.0, f32::NAN, 1_024.000_1, f32::INFINITY] {
+        assert_eq!(refused(&call().with_scale(scale), &INPUTS).number, 3);
+    }
+    for scale in [f32::from_bits(1), 1_024.0] {
+        attention(&call().with_scale(scale), &INPUTS, &mut Buffers::new(&call()).lend()).unwrap();
+    }
+}

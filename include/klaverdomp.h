@@ -1,0 +1,287 @@
+/* Klaverdomp: the attention operator of ONNX Attention 24 in f32, with key and value caches, and the house exponential that it uses.
+ *
+ * This header is for C99 and C++. It declares the five functions of libklaverdomp.a, which have a number at the end of their names, and
+ * has a wrapper for each, without that number, which is the function to call.
+ *
+ * EDITION. The number at the end of a name is the edition of the binary interface. A change of a record, a parameter or a meaning gives
+ * the function the next number, so a program compiled with an older header does not link; it never computes other bits.
+ *
+ * OWNERSHIP. The caller owns all memory and lends it for the length of a call. Nothing is allocated, kept or freed. The lengths count
+ * elements, and are true: that many elements stand at the pointer, which is aligned for its type. A null pointer stands for an empty
+ * tensor, whatever length stands beside it.
+ *
+ * OVERLAP. A tensor that is written (output, present_key, present_value, scores, work) overlaps no other tensor of its call. So the past
+ * caches of a step are not its present caches: keep two of each, and exchange them after a step. Tensors that are only read may overlap
+ * each other.
+ *
+ * THREADS. There is no state. Any number of threads may call at once, where no tensor that one of them writes is lent to another.
+ *
+ * FLOATS. The calling thread has the floating-point environment that a C program starts with: rounding to nearest, subnormal numbers
+ * kept. A program that is linked with -ffast-math may start with another one.
+ *
+ * A refused call leaves every element of every tensor as it was. A call that is done has written every element of output, present_key,
+ * present_value, scores and work; none of them depends on what stood there before, and none is a NaN.
+ */
+#ifndef KLAVERDOMP_H
+#define KLAVERDOMP_H
+
+#include <stddef.h>
+#include <stdint.h>
+
+#if SIZE_MAX != UINT64_MAX
+#error "klaverdomp.h: the library is for 64-bit targets"
+#endif
+
+#ifdef __cplusplus
+extern "C" {
+#endif
+
+/* ---- the call record ---- */
+
+/* Limits. The total length T is past_length + key_length. */
+enum {
+    KLAVERDOMP_MAX_BATCHES = 8,
+    KLAVERDOMP_MAX_HEADS = 32,     /* query heads, and key heads; the query heads are a multiple of the key heads */
+    KLAVERDOMP_MAX_LENGTH = 2048,  /* query length, incoming key length, and T */
+    KLAVERDOMP_MAX_HEAD_SIZE = 256 /* head size, and value head size */
+};
+
+/* The largest given scale, and the largest magnitude of an element of query, key, value and the past caches. */
+#define KLAVERDOMP_MAX_SCALE 1024.0f
+#define KLAVERDOMP_MAX_MAGNITUDE 65536.0f
+
+/* The form of a call: how keys and values are kept. */
+enum {
+    KLAVERDOMP_PLAIN = 0,  /* all are in key and value */
+    KLAVERDOMP_CACHED = 1, /* past_length of them are in the past caches, and key and value hold those that follow */
+    KLAVERDOMP_COUNTED = 2 /* key and value are a cache that the caller keeps, of which live_counts[b] positions count in batch b */
+};
+
+enum {
+    KLAVERDOMP_NO_MASK = 0,
+    KLAVERDOMP_BOOLEAN_MASK = 1, /* 1: seen, 0: hidden */
+    KLAVERDOMP_FLOAT_MASK = 2    /* added to the score; minus infinity: hidden */
+};
+
+enum {
+    KLAVERDOMP_DEFAULT_SCALE = 0, /* the f32 nearest to 1 / sqrt(head_size) */
+    KLAVERDOMP_GIVEN_SCALE = 1
+};
+
+/* What the scores tensor shows. */
+enum {
+    KLAVERDOMP_SCALED_SCORES = 0, /* scaled dot products; +0 at positions past the live count */
+    KLAVERDOMP_MASKED_SCORES = 1, /* after the float mask is added; minus infinity where a key is not seen */
+    KLAVERDOMP_CAPPED_SCORES = 2, /* the same as 1: there is no cap */
+    KLAVERDOMP_WEIGHTS = 3,       /* the weights; +0 where a key is not seen */
+    KLAVERDOMP_NO_SCORES = 255
+};
+
+/* Any numbers may stand here: what is out of its limits is refused. In a record that is set to zeros score_mode shows scores. */
+typedef struct klaverdomp_call {
+    uint64_t form;
+    uint64_t mask;
+    uint64_t scale_kind;
+    uint64_t score_mode;
+    uint64_t rank;         /* 3 or 4, of query, key, value and output alike */
+    uint64_t causal;       /* 0, or 1: row i sees the positions up to past_length + i */
+    uint64_t batches;      /* B, from 1 */
+    uint64_t query_heads;  /* Hq, from 1 */
+    uint64_t key_heads;    /* Hkv, from 1 */
+    uint64_t query_length; /* Sq, from 1 */
+    uint64_t key_length;   /* Sk, from 1 */
+    uint64_t past_length;  /* P, which is 0 in a plain or counted call */
+    uint64_t head_size;    /* D, from 1 */
+    uint64_t value_size;   /* Dv, from 1 */
+    uint64_t mask_dims[4]; /* each 1, or B, Hq, Sq and T in turn; not looked at without a mask */
+    float scale;           /* looked at only where scale_kind is KLAVERDOMP_GIVEN_SCALE: above 0 */
+} klaverdomp_call;
+
+/* ---- the tensors ---- */
+
+/* Each tensor has exactly the length that is given here, and one that the call does not use is empty.
+ *
+ * At rank 4, element k of row i of head h of batch b stands at ((b * H + h) * S + i) * size + k, and at rank 3 at
+ * (b * S + i) * H * size + h * size + k. That holds of query, key, value and output. The caches have the order of rank 4 and the scores
+ * are (B, Hq, Sq, T) in either rank. The mask has the order of its own four dimensions. */
+typedef struct klaverdomp_tensors {
+    /* read */
+    const float *query;
+    size_t query_len; /* B * Hq * Sq * D */
+    const float *key;
+    size_t key_len; /* B * Hkv * Sk * D */
+    const float *value;
+    size_t value_len; /* B * Hkv * Sk * Dv */
+    const uint8_t *boolean_mask;
+    size_t boolean_mask_len; /* the product of mask_dims with a boolean mask, else 0 */
+    const float *float_mask;
+    size_t float_mask_len; /* the product of mask_dims with a float mask, else 0 */
+    const float *past_key;
+    size_t past_key_len; /* B * Hkv * P * D in a cached call, else 0 */
+    const float *past_value;
+    size_t past_value_len; /* B * Hkv * P * Dv in a cached call, else 0 */
+    const int64_t *live_counts;
+    size_t live_counts_len; /* B in a counted call, else 0 */
+    /* written */
+    float *output;
+    size_t output_len; /* B * Hq * Sq * Dv */
+    float *present_key;
+    size_t present_key_len; /* B * Hkv * T * D in a cached call, else 0: the past rows and then the incoming rows */
+    float *present_value;
+    size_t present_value_len; /* B * Hkv * T * Dv in a cached call, else 0 */
+    float *scores;
+    size_t scores_len; /* B * Hq * Sq * T, and 0 where the score mode is KLAVERDOMP_NO_SCORES */
+    float *work;
+    size_t work_len; /* T in every call: scratch, which holds the weights of the last row afterwards */
+} klaverdomp_tensors;
+
+/* ---- the answer ---- */
+
+/* The lowest refusal that applies is the one that is given. */
+enum {
+    KLAVERDOMP_DONE = 0,
+    KLAVERDOMP_LIMITS = 1,        /* a dimension or T is out of its limits, or P is not 0 outside a cached call */
+    KLAVERDOMP_HEAD_GROUPS = 2,   /* the query heads are not a multiple of the key heads */
+    KLAVERDOMP_SETTINGS = 3,      /* a rank, causal flag, score mode or given scale that is not allowed; a code that names no form, mask
+                                     kind or scale kind */
+    KLAVERDOMP_MASK_SHAPE = 4,    /* a mask dimension is neither 1 nor its full size */
+    KLAVERDOMP_INPUT_LENGTH = 5,  /* a tensor that is read has the wrong length */
+    KLAVERDOMP_OUTPUT_LENGTH = 6, /* a tensor that is written has the wrong length */
+    KLAVERDOMP_LIVE_COUNT = 7,    /* a live count is below 0 or above T */
+    KLAVERDOMP_MASK_CELL = 8,     /* a byte of the mask is above 1, or a cell of it is a NaN or plus infinity */
+    KLAVERDOMP_ELEMENT = 9        /* an element is not a number of magnitude at most 65,536; positions past the live count are not
+                                     looked at */
+};
+
+/* The tensors of refusal 9, in the order in which they are searched. */
+enum {
+    KLAVERDOMP_QUERY = 0,
+    KLAVERDOMP_PAST_KEY = 1,
+    KLAVERDOMP_KEY = 2,
+    KLAVERDOMP_PAST_VALUE = 3,
+    KLAVERDOMP_VALUE = 4
+};
+
+typedef struct klaverdomp_answer {
+    uint32_t refusal;     /* KLAVERDOMP_DONE, or the number of the refusal */
+    uint64_t tensor;      /* refusal 9: the tensor at fault; else 0 */
+    uint64_t index;       /* refusals 7 to 9: the first index at fault in the tensor as it lies; else 0 */
+    uint64_t total;       /* done: T; else 0 */
+    uint64_t masked_rows; /* done: how many rows (b, h, i) see no key, and have zeros as their output; else 0 */
+} klaverdomp_answer;
+
+/* ---- the functions of the library ---- */
+
+/* Their pointers are never null, also where the length is 0. */
+
+/* The numbers of the record, in their order: form, mask, scale_kind, score_mode, rank, causal, batches, query_heads, key_heads,
+ * query_length, key_length, past_length, head_size, value_size and the four of mask_dims. Any other count than 18 is refusal 1. */
+enum { KLAVERDOMP_RECORD_NUMBERS = 18 };
+
+uint32_t klaverdomp_attention_1(
+    const uint64_t *record, size_t record_len,
+    float scale,
+    const float *query, size_t query_len,
+    const float *key, size_t key_len,
+    const float *value, size_t value_len,
+    const uint8_t *boolean_mask, size_t boolean_mask_len,
+    const float *float_mask, size_t float_mask_len,
+    const float *past_key, size_t past_key_len,
+    const float *past_value, size_t past_value_len,
+    const int64_t *live_counts, size_t live_counts_len,
+    float *output, size_t output_len,
+    float *present_key, size_t present_key_len,
+    float *present_value, size_t present_value_len,
+    float *scores, size_t scores_len,
+    float *work, size_t work_len,
+    uint64_t *tensor, uint64_t *index, uint64_t *total, uint64_t *masked_rows);
+
+uint32_t klaverdomp_exp_neg_1(float d, float *value);
+void klaverdomp_exp_neg_row_1(float *row, size_t row_len, float largest);
+uint32_t klaverdomp_power_entry_1(uint64_t index, float *value);
+uint32_t klaverdomp_default_scale_1(uint64_t head_size, float *value);
+
+/* ---- wrappers ---- */
+
+/* Attention: does the call, or refuses it and leaves every tensor as it was. */
+static inline klaverdomp_answer klaverdomp_attention(const klaverdomp_call *call, const klaverdomp_tensors *tensors)
+{
+    const klaverdomp_tensors t = *tensors;
+    const uint64_t record[KLAVERDOMP_RECORD_NUMBERS] = {
+        call->form, call->mask, call->scale_kind, call->score_mode, call->rank, call->causal,
+        call->batches, call->query_heads, call->key_heads, call->query_length, call->key_length, call->past_length,
+        call->head_size, call->value_size,
+        call->mask_dims[0], call->mask_dims[1], call->mask_dims[2], call->mask_dims[3]
+    };
+    const uint8_t no_byte = 0;
+    const int64_t no_count = 0;
+    float no_float = 0.0f;
+    klaverdomp_answer answer;
+    answer.refusal = klaverdomp_attention_1(
+        record, KLAVERDOMP_RECORD_NUMBERS,
+        call->scale,
+        t.query ? t.query : &no_float, t.query ? t.query_len : 0,
+        t.key ? t.key : &no_float, t.key ? t.key_len : 0,
+        t.value ? t.value : &no_float, t.value ? t.value_len : 0,
+        t.boolean_mask ? t.boolean_mask : &no_byte, t.boolean_mask ? t.boolean_mask_len : 0,
+        t.float_mask ? t.float_mask : &no_float, t.float_mask ? t.float_mask_len : 0,
+        t.past_key ? t.past_key : &no_float, t.past_key ? t.past_key_len : 0,
+        t.past_value ? t.past_value : &no_float, t.past_value ? t.past_value_len : 0,
+        t.live_counts ? t.live_counts : &no_count, t.live_counts ? t.live_counts_len : 0,
+        t.output ? t.output : &no_float, t.output ? t.output_len : 0,
+        t.present_key ? t.present_key : &no_float, t.present_key ? t.present_key_len : 0,
+        t.present_value ? t.present_value : &no_float, t.present_value ? t.present_value_len : 0,
+        t.scores ? t.scores : &no_float, t.scores ? t.scores_len : 0,
+        t.work ? t.work : &no_float, t.work ? t.work_len : 0,
+        &answer.tensor, &answer.index, &answer.total, &answer.masked_rows);
+    return answer;
+}
+
+/* What a refusal means, in words. */
+static inline const char *klaverdomp_refusal_text(uint32_t refusal)
+{
+    switch (refusal) {
+    case KLAVERDOMP_DONE: return "done";
+    case KLAVERDOMP_LIMITS: return "a dimension or the total length is out of its limits, or there is a past outside a cached call";
+    case KLAVERDOMP_HEAD_GROUPS: return "the query heads are not a multiple of the key heads";
+    case KLAVERDOMP_SETTINGS: return "a form, mask kind, scale, score mode, rank or causal flag is not allowed";
+    case KLAVERDOMP_MASK_SHAPE: return "a mask dimension is neither 1 nor its full size";
+    case KLAVERDOMP_INPUT_LENGTH: return "a tensor that is read has the wrong length";
+    case KLAVERDOMP_OUTPUT_LENGTH: return "a tensor that is written has the wrong length";
+    case KLAVERDOMP_LIVE_COUNT: return "a live count is below 0 or above the total length";
+    case KLAVERDOMP_MASK_CELL: return "a mask byte is above 1, or a mask cell is a NaN or plus infinity";
+    case KLAVERDOMP_ELEMENT: return "an element is not a number of magnitude at most 65,536";
+    default: return "no refusal has this number";
+    }
+}
+
+/* E(d), near e^-d: 1 with the value behind the pointer, or 0 with +0 where there is none, which is where d is below 0 or a NaN. */
+static inline int klaverdomp_exp_neg(float d, float *value)
+{
+    return klaverdomp_exp_neg_1(d, value) != 0;
+}
+
+/* Each element s of the row becomes E(largest - s), and +0 where that has no value. */
+static inline void klaverdomp_exp_neg_row(float *row, size_t row_len, float largest)
+{
+    float no_float = 0.0f;
+    klaverdomp_exp_neg_row_1(row ? row : &no_float, row ? row_len : 0, largest);
+}
+
+/* The f32 nearest to 2^-(index / 256): 1 with the value behind the pointer for an index up to 255, or 0 with +0 for any other. */
+static inline int klaverdomp_power_entry(uint64_t index, float *value)
+{
+    return klaverdomp_power_entry_1(index, value) != 0;
+}
+
+/* The f32 nearest to 1 / sqrt(head_size): 1 with the value behind the pointer for a size from 1 to 256, or 0 with +0 for any other. */
+static inline int klaverdomp_default_scale(uint64_t head_size, float *value)
+{
+    return klaverdomp_default_scale_1(head_size, value) != 0;
+}
+
+#ifdef __cplusplus
+}
+#endif
+
+#endif

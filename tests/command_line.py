@@ -1,0 +1,264 @@
+"""Smoke test of the command line tool: known calls, chunks against a whole call, bad files, refused calls.
+
+    python3 tests/command_line.py PROGRAM
+
+Writes and reads .npy files by itself, from their format. Exits non-zero at the first failure.
+"""
+
+import random
+import struct
+import subprocess
+import sys
+import tempfile
+import xml.etree.ElementTree
+from pathlib import Path
+
+FORMATS = {"<f4": "f", "<i8": "q", "|b1": "B", "|u1": "B", "<f8": "d"}
+
+
+def size(shape):
+    product = 1
+    for dim in shape:
+        product *= dim
+    return product
+
+
+def npy(shape, elements, descr="<f4", version=1, order="False"):
+    """The bytes of a .npy file."""
+    assert len(elements) == size(shape)
+    header = f"{{'descr': '{descr}', 'fortran_order': {order}, 'shape': {tuple(shape)!r}, }}\n".encode()
+    length = struct.pack("<H" if version == 1 else "<I", len(header))
+    return b"\x93NUMPY" + bytes([version, 0]) + length + header + struct.pack(f"<{len(elements)}{FORMATS[descr]}", *elements)
+
+
+def read(path):
+    """Shape and elements of a .npy file of f4, version 1."""
+    data = path.read_bytes()
+    assert data[:8] == b"\x93NUMPY\x01\x00"
+    (length,) = struct.unpack("<H", data[8:10])
+    assert (10 + length) % 64 == 0
+    header = eval(data[10:10 + length], {})
+    assert header["descr"] == "<f4" and header["fortran_order"] is False
+    count = size(header["shape"])
+    return header["shape"], list(struct.unpack(f"<{count}f", data[10 + length:]))
+
+
+class Tool:
+    def __init__(self, program, folder):
+        self.program, self.folder, self.checks = program, folder, 0
+
+    def file(self, name, shape, elements, **settings):
+        (self.folder / name).write_bytes(npy(shape, elements, **settings))
+
+    def run(self, *words):
+        answer = subprocess.run([self.program, *map(str, words)], cwd=self.folder, capture_output=True, timeout=120)
+        return answer.returncode, answer.stdout.decode(), answer.stderr.decode()
+
+    def attend(self, *words):
+        return self.run("attend", "--query", "q.npy", "--key", "k.npy", "--value", "v.npy", "--output", "y.npy", *words)
+
+    def expect(self, what, found, wanted):
+        self.checks += 1
+        if found != wanted:
+            sys.exit(f"{what}: {found!r} instead of {wanted!r}")
+
+    def done(self, what, *words):
+        status, out, err = self.attend(*words)
+        self.expect(f"{what}: status, {err}", status, 0)
+        return out
+
+    def output(self, what, name, shape, elements):
+        self.expect(what, read(self.folder / name), (tuple(shape), elements))
+
+    def fails(self, what, status, words, *given):
+        """The command fails with this status and these words, writes no output and does not crash."""
+        (self.folder / "y.npy").unlink(missing_ok=True)
+        found, _, err = self.attend(*given)
+        self.expect(f"{what}: status, {err}", found, status)
+        self.checks += 1
+        if words not in err or "panicked" in err or not err.startswith("klaverdomp: "):
+            sys.exit(f"{what}: {err!r} has not {words!r}")
+        self.expect(f"{what}: an output", (self.folder / "y.npy").exists(), False)
+
+
+def qkv(tool, q, k, v, q_shape=None, k_shape=None, v_shape=None):
+    """Writes q.npy, k.npy and v.npy; without shapes, one batch and one head of size 1."""
+    tool.file("q.npy", q_shape or (1, 1, len(q), 1), q)
+    tool.file("k.npy", k_shape or (1, 1, len(k), 1), k)
+    tool.file("v.npy", v_shape or (1, 1, len(v), 1), v)
+
+
+def known_calls(tool):
+    """Examples of the scope document, by their letters."""
+    qkv(tool, [1], [3, 3], [2, 4])
+    out = tool.done("B", "--scale", "1", "--mode", "3", "--scores", "s.npy")
+    tool.expect("B: answer", out, "done: total length 2, fully masked rows 0\n")
+    tool.output("B: output", "y.npy", (1, 1, 1, 1), [3.0])
+    tool.output("B: scores", "s.npy", (1, 1, 1, 2), [0.5, 0.5])
+
+    for descr in ("|b1", "|u1"):
+        tool.file("m.npy", (1, 1, 1, 2), [0, 0], descr=descr)
+        out = tool.done("C", "--scale=1", "--mask=m.npy")
+        tool.expect("C: answer", out, "done: total length 2, fully masked rows 1\n")
+        tool.output("C: output", "y.npy", (1, 1, 1, 1), [0.0])
+    tool.file("m.npy", (2,), [1, 0], descr="|b1", version=2)
+    tool.done("C with one dimension", "--scale", "1", "--mask", "m.npy")
+    tool.output("C with one dimension", "y.npy", (1, 1, 1, 1), [2.0])
+    tool.file("m.npy", (1, 2), [float("-inf"), 0.5])
+    tool.done("a float mask", "--scale", "1", "--mask", "m.npy", "--mode", "1", "--scores", "s.npy")
+    tool.output("a float mask", "s.npy", (1, 1, 1, 2), [float("-inf"), 3.5])
+
+    qkv(tool, [1, 1], [1, 1], [6, 12])
+    tool.done("D", "--scale", "1", "--causal")
+    tool.output("D", "y.npy", (1, 1, 2, 1), [6.0, 9.0])
+
+    qkv(tool, [1], [1], [12])
+    tool.file("pk.npy", (1, 1, 1, 1), [1])
+    tool.file("pv.npy", (1, 1, 1, 1), [6])
+    tool.done("E", "--scale", "1", "--causal", "--past-key", "pk.npy", "--past-value", "pv.npy",
+              "--present-key", "nk.npy", "--present-value", "nv.npy")
+    tool.output("E: output", "y.npy", (1, 1, 1, 1), [9.0])
+    tool.output("E: present key", "nk.npy", (1, 1, 2, 1), [1.0, 1.0])
+    tool.output("E: present value", "nv.npy", (1, 1, 2, 1), [6.0, 12.0])
+
+    qkv(tool, [1] * 4, [1] * 2, [3, 7], (1, 1, 4), (1, 1, 2), (1, 1, 2))
+    tool.done("I in 3 dimensions", "--q-heads", "4", "--kv-heads", "2")
+    tool.output("I in 3 dimensions", "y.npy", (1, 1, 4), [3.0, 3.0, 7.0, 7.0])
+
+    qkv(tool, [1], [3, float("nan")], [2, 4])
+    tool.file("live.npy", (1,), [1], descr="<i8")
+    tool.done("K", "--scale", "1", "--live", "live.npy")
+    tool.output("K", "y.npy", (1, 1, 1, 1), [2.0])
+
+
+def chunks(tool):
+    """A recording in three chunks has the bytes of the whole."""
+    rng = random.Random(7)
+    heads, kv_heads, positions, width = 4, 2, 9, 5
+    tensor = {name: [rng.uniform(-2, 2) for _ in range(positions * h * width)]
+              for name, h in (("q", heads), ("k", kv_heads), ("v", kv_heads))}
+
+    def write(start, end):
+        for name, h in (("q", heads), ("k", kv_heads), ("v", kv_heads)):
+            part = tensor[name][start * h * width:end * h * width]
+            tool.file(f"{name}.npy", (1, end - start, h * width), part)
+
+    settings = ("--causal", "--q-heads", heads, "--kv-heads", kv_heads)
+    write(0, positions)
+    tool.done("the whole", *settings)
+    _, whole = read(tool.folder / "y.npy")
+    together, past = [], ()
+    for start, end in ((0, 4), (4, 5), (5, 9)):
+        write(start, end)
+        tool.done(f"chunk {start} to {end}", *settings, *past, "--present-key", "ck.npy", "--present-value", "cv.npy")
+        together += read(tool.folder / "y.npy")[1]
+        past = ("--past-key", "ck.npy", "--past-value", "cv.npy")
+    tool.expect("chunks and the whole", together, whole)
+
+
+def bad_files(tool):
+    qkv(tool, [1], [3, 3], [2, 4])
+    good = (tool.folder / "k.npy").read_bytes()
+    damaged = {
+        "nothing": (b"", "ends inside its first 8 bytes"),
+        "another format": (b"PK\x03\x04" + good, "is not a .npy file"),
+        "a cut header": (good[:40], "ends inside its header"),
+        "cut elements": (good[:-1], "is cut short: shape (1, 1, 2, 1) needs 8 bytes"),
+        "more elements": (good + b"\x00", "is too long"),
+        "doubles": (npy((1, 1, 2, 1), [3, 3], descr="<f8"), "'<f8'"),
+        "Fortran order": (npy((1, 1, 2, 1), [3, 3], order="True"), "Fortran order"),
+        "bytes": (npy((1, 1, 2, 1), [3, 3], descr="|u1"), "--key holds bool or u1, and f4 is needed"),
+        "3 dimensions": (npy((1, 2, 1), [3, 3]), "--key has shape (1, 2, 1); (1, key heads, positions, 1) fits the query"),
+        "a huge shape": (good.replace(b"(1, 1, 2, 1), }", b"(1,9**99,2,1)}  "), "k.npy: has a header"),
+        "a shape past all memory": (good.replace(b"(1, 1, 2, 1), }", b"(9999999999999)}"), "k.npy: "),
+    }
+    for what, (data, words) in damaged.items():
+        (tool.folder / "k.npy").write_bytes(data)
+        tool.fails(what, 2, words)
+    (tool.folder / "k.npy").unlink()
+    tool.fails("no file", 2, "k.npy: No such file")
+    (tool.folder / "k.npy").mkdir()
+    tool.fails("a folder", 2, "k.npy: is a folder")
+    (tool.folder / "k.npy").rmdir()
+    # no damage of one byte makes it crash
+    rng = random.Random(3)
+    for _ in range(60):
+        data = bytearray(good)
+        data[rng.randrange(len(data))] = rng.randrange(256)
+        (tool.folder / "k.npy").write_bytes(data)
+        status, _, err = tool.attend()
+        tool.expect(f"a damaged byte: {err}", status in (0, 1, 2) and "panicked" not in err, True)
+
+
+def refused_calls(tool):
+    nan = float("nan")
+    qkv(tool, [1], [3, 3], [2, nan])
+    tool.fails("a NaN", 1, "refused: refusal 9: element 1 of the value is not a number of magnitude at most 65,536\n"
+               "  it is NaN\n  at [0, 0, 1, 0] of shape (1, 1, 2, 1)")
+    qkv(tool, [1], [3, 3], [2, 4])
+    tool.fails("a scale of 0", 1, "refusal 3", "--scale", "0")
+    tool.fails("a scale that is no number", 1, "the scale is NaN", "--scale", "nan")
+    tool.fails("mode 4", 1, "the score mode is 4", "--mode", "4", "--scores", "s.npy")
+    tool.file("m.npy", (1, 1, 1, 3), [1, 1, 1], descr="|b1")
+    tool.fails("a mask too long", 1, "refusal 4", "--mask", "m.npy")
+    tool.file("m.npy", (1, 1, 1, 2), [1, 2], descr="|u1")
+    tool.fails("a mask byte 2", 1, "refusal 8: element 1 of the mask", "--mask", "m.npy")
+    tool.file("live.npy", (1,), [3], descr="<i8")
+    tool.fails("a live count above the total", 1, "refusal 7: live count 0", "--live", "live.npy")
+    qkv(tool, [1] * 257, [1] * 257, [1], (1, 1, 1, 257), (1, 1, 1, 257), (1, 1, 1, 1))
+    tool.fails("head size 257", 1, "the head size is 257, and 1 to 256 is allowed")
+    qkv(tool, [], [1], [1], (1, 1, 0, 1))
+    tool.fails("no queries", 1, "the query length is 0")
+    qkv(tool, [1] * 4, [1] * 3, [1] * 3, (1, 4, 1, 1), (1, 3, 1, 1), (1, 3, 1, 1))
+    tool.fails("4 heads over 3", 1, "4 query heads, 3 key heads")
+
+
+def bad_usage(tool):
+    qkv(tool, [1], [3, 3], [2, 4])
+    tool.fails("an unknown option", 2, "--window is not an option here", "--window", "3")
+    tool.fails("a scale in words", 2, "--scale half is not a number", "--scale", "half")
+    tool.fails("a mode without scores", 2, "--mode and --scores go together", "--mode", "3")
+    tool.fails("heads with 4 dimensions", 2, "with 4 the shapes give them", "--q-heads", "1")
+    tool.fails("a past key alone", 2, "--past-key and --past-value go together", "--past-key", "q.npy")
+    tool.fails("live counts beside a cache", 2, "--live stands for an outside cache", "--live", "live.npy", "--past-key", "q.npy")
+    tool.fails("two outputs in one file", 2, "is named for two outputs", "--mode", "3", "--scores", "y.npy")
+    tool.fails("an output that cannot be written", 2, "no/s.npy", "--mode", "3", "--scores", "no/s.npy")
+    for words in ((), ("no-such-command",), ("attend",), ("demo", "--head", "9"), ("bench", "--shape", "6")):
+        tool.expect(f"status of {words}", tool.run(*words)[0], 2)
+    for words in (("--help",), ("attend", "--help"), ("demo", "--help"), ("bench", "--help")):
+        status, out, _ = tool.run(*words)
+        tool.expect(f"help of {words}", (status, "klaverdomp" in out), (0, True))
+
+
+def demonstration(tool):
+    status, out, err = tool.run("demo", "--output", "demo.svg", "--head", "2")
+    tool.expect(f"demo: status, {err}", status, 0)
+    tool.expect("demo: cuts that agree", out.count("3072 of 3072 outputs have the same bits, the caches too"), 5)
+    root = xml.etree.ElementTree.parse(tool.folder / "demo.svg").getroot()
+    texts = ["".join(text.itertext()) for text in root.iter("{http://www.w3.org/2000/svg}text")]
+    for text in ("key position j", "query position i", "weight"):
+        tool.expect(f"demo: {text}", text in texts, True)
+    status, out, err = tool.run("bench", "--shape", "1", "--seconds", "0")
+    tool.expect(f"bench: status, {err}", (status, "decode step B1 Hq8 Hkv8 P511 D64" in out), (0, True))
+
+
+def closed_output(tool):
+    """A reader that goes away early makes no crash."""
+    run = subprocess.Popen([tool.program, "demo"], cwd=tool.folder, stdout=subprocess.PIPE, stderr=subprocess.PIPE)
+    run.stdout.close()
+    err = run.stderr.read().decode()
+    tool.expect("closed output", (run.wait(timeout=60), err), (2, ""))
+
+
+def main():
+    if len(sys.argv) != 2:
+        sys.exit(__doc__)
+    with tempfile.TemporaryDirectory() as folder:
+        tool = Tool(Path(sys.argv[1]).resolve(), Path(folder))
+        for test in (known_calls, chunks, bad_files, refused_calls, bad_usage, demonstration, closed_output):
+            test(tool)
+        print(f"command line: {tool.checks} checks passed")
+
+
+if __name__ == "__main__":
+    main()

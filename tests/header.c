@@ -1,0 +1,201 @@
+/* Every function of the header, called from C and from C++: the edges of the record, null pointers, and what each function answers.
+ * The status is 0 exactly where all is as expected. */
+#include <math.h>
+#include <stdio.h>
+#include <string.h>
+
+#include "klaverdomp.h"
+
+static int failures = 0;
+
+static void expect(int holds, const char *what)
+{
+    if (!holds) {
+        failures++;
+        printf("FAILED: %s\n", what);
+    }
+}
+
+static uint32_t bits(float x)
+{
+    uint32_t b;
+    memcpy(&b, &x, sizeof b);
+    return b;
+}
+
+/* One query against two keys, or one with a past of one, all sizes 1, scale 1. */
+static float query[1], key[2], value[2], past_key[1], past_value[1], output[1], present_key[2], present_value[2], scores[2], work[2];
+static uint8_t mask[2];
+static klaverdomp_call call;
+static klaverdomp_tensors t;
+
+static void two_keys(void)
+{
+    memset(&call, 0, sizeof call);
+    memset(&t, 0, sizeof t);
+    query[0] = 1;
+    key[0] = key[1] = 3;
+    value[0] = 2;
+    value[1] = 4;
+    output[0] = -7;
+    call.scale_kind = KLAVERDOMP_GIVEN_SCALE;
+    call.scale = 1;
+    call.score_mode = KLAVERDOMP_NO_SCORES;
+    call.rank = 4;
+    call.batches = call.query_heads = call.key_heads = call.query_length = call.head_size = call.value_size = 1;
+    call.key_length = 2;
+    t.query = query;
+    t.query_len = 1;
+    t.key = key;
+    t.key_len = 2;
+    t.value = value;
+    t.value_len = 2;
+    t.output = output;
+    t.output_len = 1;
+    t.work = work;
+    t.work_len = 2;
+}
+
+static void one_past(void)
+{
+    two_keys();
+    key[0] = past_key[0] = 1;
+    past_value[0] = 6;
+    value[0] = 12;
+    call.form = KLAVERDOMP_CACHED;
+    call.causal = 1;
+    call.past_length = call.key_length = 1;
+    t.key_len = t.value_len = t.past_key_len = t.past_value_len = 1;
+    t.past_key = past_key;
+    t.past_value = past_value;
+    t.present_key = present_key;
+    t.present_value = present_value;
+    t.present_key_len = t.present_value_len = 2;
+}
+
+/* The call is refused with that number and no place, and the output is as it was. */
+static void refused(uint32_t number, const char *what)
+{
+    klaverdomp_answer a = klaverdomp_attention(&call, &t);
+    expect(a.refusal == number && a.tensor == 0 && a.index == 0 && a.total == 0 && a.masked_rows == 0 && output[0] == -7, what);
+}
+
+static void calls_that_are_done(void)
+{
+    klaverdomp_answer a;
+    two_keys();
+    a = klaverdomp_attention(&call, &t);
+    expect(a.refusal == KLAVERDOMP_DONE && a.total == 2 && a.masked_rows == 0 && output[0] == 3 && work[0] == 0.5f, "two equal keys");
+    call.score_mode = KLAVERDOMP_SCALED_SCORES;
+    t.scores = scores;
+    t.scores_len = 2;
+    a = klaverdomp_attention(&call, &t);
+    expect(a.refusal == KLAVERDOMP_DONE && scores[0] == 3 && scores[1] == 3, "scores");
+    two_keys();
+    call.mask = KLAVERDOMP_BOOLEAN_MASK;
+    call.mask_dims[0] = call.mask_dims[1] = call.mask_dims[2] = 1;
+    call.mask_dims[3] = 2;
+    t.boolean_mask = mask;
+    t.boolean_mask_len = 2;
+    a = klaverdomp_attention(&call, &t);
+    expect(a.refusal == KLAVERDOMP_DONE && a.masked_rows == 1 && bits(output[0]) == 0, "a fully masked row");
+    one_past();
+    a = klaverdomp_attention(&call, &t);
+    expect(a.refusal == KLAVERDOMP_DONE && a.total == 2 && output[0] == 9 && present_value[0] == 6 && present_value[1] == 12, "a past");
+}
+
+static void calls_that_are_refused(void)
+{
+    klaverdomp_answer a;
+    two_keys();
+    call.past_length = UINT64_MAX;
+    refused(KLAVERDOMP_LIMITS, "a past outside a cached call");
+    call.form = KLAVERDOMP_CACHED;
+    refused(KLAVERDOMP_LIMITS, "a total that does not fit 64 bits");
+    one_past();
+    call.form = 3;
+    refused(KLAVERDOMP_SETTINGS, "no form, with a past");
+    call.query_heads = 3;
+    call.key_heads = 2;
+    refused(KLAVERDOMP_HEAD_GROUPS, "no form, and heads in no groups");
+    call.batches = 0;
+    refused(KLAVERDOMP_LIMITS, "no form, and no batch");
+    two_keys();
+    call.mask = 3;
+    refused(KLAVERDOMP_SETTINGS, "no mask kind");
+    two_keys();
+    call.scale_kind = 2;
+    refused(KLAVERDOMP_SETTINGS, "no scale kind");
+    call.scale_kind = UINT64_MAX;
+    refused(KLAVERDOMP_SETTINGS, "no scale kind, a large code");
+    two_keys();
+    call.score_mode = 254;
+    refused(KLAVERDOMP_SETTINGS, "no score mode");
+    two_keys();
+    call.scale = NAN;
+    refused(KLAVERDOMP_SETTINGS, "a scale that is not a number");
+    two_keys();
+    t.key = NULL;
+    refused(KLAVERDOMP_INPUT_LENGTH, "a null pointer stands for an empty tensor");
+    two_keys();
+    t.present_key = present_key;
+    t.present_key_len = 1;
+    refused(KLAVERDOMP_OUTPUT_LENGTH, "a present cache in a plain call");
+    one_past();
+    value[0] = INFINITY;
+    a = klaverdomp_attention(&call, &t);
+    expect(a.refusal == KLAVERDOMP_ELEMENT && a.tensor == KLAVERDOMP_VALUE && a.index == 0 && output[0] == -7, "an infinite value");
+}
+
+/* A record with another count of numbers than 18. */
+static void record_lengths(void)
+{
+    uint64_t record[KLAVERDOMP_RECORD_NUMBERS + 1];
+    uint64_t tensor = 5, index = 5, total = 5, masked = 5;
+    float none = 0;
+    uint8_t no_byte = 0;
+    int64_t no_count = 0;
+    size_t i;
+    for (i = 0; i <= KLAVERDOMP_RECORD_NUMBERS; i++)
+        record[i] = 1;
+    for (i = 0; i <= KLAVERDOMP_RECORD_NUMBERS + 1; i++) {
+        uint32_t refusal = klaverdomp_attention_1(record, i, 1, &none, 0, &none, 0, &none, 0, &no_byte, 0, &none, 0, &none, 0, &none, 0,
+                                                  &no_count, 0, &none, 0, &none, 0, &none, 0, &none, 0, &none, 0, &tensor, &index, &total,
+                                                  &masked);
+        expect(refusal == (i == KLAVERDOMP_RECORD_NUMBERS ? 3u : 1u), "a record's length");
+        expect(tensor == 0 && index == 0 && total == 0 && masked == 0, "the numbers are written");
+        tensor = index = total = masked = 5;
+    }
+}
+
+static void values(void)
+{
+    float row[3] = { 0.0f, -100.0f, 1.0f };
+    float x = -1;
+    expect(klaverdomp_exp_neg(0.0f, &x) == 1 && x == 1, "E(0)");
+    expect(klaverdomp_exp_neg(-1.0f, &x) == 0 && bits(x) == 0, "E below 0");
+    expect(klaverdomp_exp_neg(NAN, &x) == 0 && bits(x) == 0, "E of a NaN");
+    expect(klaverdomp_exp_neg(INFINITY, &x) == 1 && bits(x) == 0, "E of infinity");
+    klaverdomp_exp_neg_row(row, 3, 0.0f);
+    expect(row[0] == 1 && bits(row[1]) == 0 && bits(row[2]) == 0, "E over a row");
+    klaverdomp_exp_neg_row(NULL, 0, 0.0f);
+    expect(klaverdomp_power_entry(128, &x) == 1 && bits(x) == 0x3f3504f3u, "the middle of the power table");
+    expect(klaverdomp_power_entry(256, &x) == 0 && bits(x) == 0, "past the power table");
+    expect(klaverdomp_power_entry(UINT64_MAX, &x) == 0 && bits(x) == 0, "far past the power table");
+    expect(klaverdomp_default_scale(64, &x) == 1 && x == 0.125f, "the scale of 64");
+    expect(klaverdomp_default_scale(256, &x) == 1 && x == 0.0625f, "the scale of 256");
+    expect(klaverdomp_default_scale(0, &x) == 0 && bits(x) == 0, "the scale of 0");
+    expect(klaverdomp_default_scale(257, &x) == 0 && bits(x) == 0, "the scale of 257");
+}
+
+int main(void)
+{
+    uint32_t n;
+    calls_that_are_done();
+    calls_that_are_refused();
+    record_lengths();
+    values();
+    for (n = 0; n <= 9; n++)
+        expect(strcmp(klaverdomp_refusal_text(n), klaverdomp_refusal_text(10)) != 0, "a refusal's text");
+    return failures != 0;
+}

@@ -1,0 +1,10 @@
+#!/usr/bin/env bash
+# The host's tests: the Rust workspace's own, and the command line tool on .npy files that are made here.
+# KLAVERDOMP_LIB_DIR names a folder with libklaverdomp.a; without it `rt staticlib klaverdomp` makes the library first.
+set -eu
+cd "$(dirname "$0")/.."
+
+[ -n "${KLAVERDOMP_LIB_DIR:-}" ] || rt staticlib klaverdomp
+cargo test --release --offline --manifest-path host/Cargo.toml --workspace
+cargo build --release --offline --manifest-path host/Cargo.toml --workspace
+python3 tests/command_line.py host/target/release/klaverdomp
