@@ -71,7 +71,7 @@ fn score_run<'a>(
     let size = call.size;
     let keys = caches::rows_from(call, past, incoming, size, b, g, from);
     let stride = caches::row_stride(call, size, from);
-    softmax::score_rows(q, keys, stride, scale, row);
+    scores::score_rows(q, keys, stride, scale, row);
 }
 
 // The scores of the positions from 0 on, as many as the row has elements: those of the past cache, then those of the incoming tensor.

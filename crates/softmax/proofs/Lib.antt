@@ -5,4 +5,3 @@ pub mod Rows
 pub mod Scores
 pub mod Softmax
 pub mod Positions
-pub mod Eight

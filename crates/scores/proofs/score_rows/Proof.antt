@@ -1,4 +1,4 @@
--- `softmax::score_rows` meets its contract. The loop's invariant: the elements before j are the scores of their keys, the others are as they were. Assumes nothing.
+-- `scores::score_rows` meets its contract. The loop's invariant: the elements before j are the scores of their keys, the others are as they were. Assumes nothing.
 use mathlib.Core.Path.{_≡_, refl, sym, ap, _∙_, subst}
 use mathlib.Core.List.{List, _++_, append-nil}
 use Prim.Native.Nat.{ℕ, _+_, _*_, _-_, _^_, _≤_, _<_}
@@ -13,10 +13,10 @@ use Rattle.tensor_laws.specs.Layout.{tabulate}
 use Rattle.tensor_laws.proofs.Tabulate.{length-tabulate, tabulate-append}
 use Rattle.tensor_laws.proofs.Parts.{withPart, length-part as length-middle}
 use Rattle.tensor_laws.proofs.Tails.{partOf, length-part, length-first, put-second}
 use Rattle.softmax.specs.Lists.{scoreRowsOf}
-use Rattle.softmax.proofs.Eight.{scoreOfKey, scores-from, scores-all, block-more}
-use Rattle.softmax.proofs.score_rows.Statement.{statement}
-use Rattle.softmax.proofs.score_rows.Tie as tie
+use Rattle.scores.proofs.Eight.{scoreOfKey, scores-from, scores-all, block-more}
+use Rattle.scores.proofs.score_rows.Statement.{statement}
+use Rattle.scores.proofs.score_rows.Tie as tie
 
 abbrev Inv-loop : tie.InvT-loop
 Inv-loop q keys stride scale out₀ n j₀ out j = (j ≤ length out₀) × (out ≡ tabulate j (scoreOfKey q keys stride scale) ++ drop j out₀)

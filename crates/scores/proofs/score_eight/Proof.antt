@@ -1,13 +1,13 @@
--- `softmax::score_eight` meets its contract. The loop's invariant: each sum is the dot product of the first i elements. Assumes nothing.
+-- `scores::score_eight` meets its contract. The loop's invariant: each sum is the dot product of the first i elements. Assumes nothing.
 use mathlib.Core.Path.{_≡_, ap, _∙_}
 use mathlib.Core.List.{[], _∷_}
 use Prim.Native.Nat.{ℕ, _+_, _*_, _-_, _^_, _≤_, _<_}
 use native.Mathlib.Omega.{arith}
 use lib.ListN.{length, length-set}
 use lib.Ieee.{Float, binary32, mul, ofBits}
-use Rattle.softmax.proofs.Eight.{sumTo, scoreFrom, sum-start, sum-next, sum-next-first, eight-written, eight-scores}
-use Rattle.softmax.proofs.score_eight.Statement.{statement}
-use Rattle.softmax.proofs.score_eight.Tie as tie
+use Rattle.scores.proofs.Eight.{sumTo, scoreFrom, sum-start, sum-next, sum-next-first, eight-written, eight-scores}
+use Rattle.scores.proofs.score_eight.Statement.{statement}
+use Rattle.scores.proofs.score_eight.Tie as tie
 
 abbrev Inv-loop : tie.InvT-loop
 Inv-loop q keys stride scale out a₀ b₀ c₀ d₀ e₀ f₀ g₀ h₀ n i₀ a b c d e f g h i =

@@ -1,4 +1,4 @@
--- `softmax::score_few` meets its contract. The loop's invariant: the elements before j are the scores of their keys, the others are as they were. Assumes nothing.
+-- `scores::score_few` meets its contract. The loop's invariant: the elements before j are the scores of their keys, the others are as they were. Assumes nothing.
 use mathlib.Core.Path.{_≡_, refl, ap, _∙_}
 use Prim.Native.Nat.{ℕ, _+_, _*_, _≤_, _-_}
 use native.Mathlib.Omega.{arith}
@@ -7,12 +7,12 @@ use mathlib.Core.List.{List}
 use lib.ListN.{length, set}
 use lib.Ieee.{Float, binary32, mul, nan}
 use Rattle.tensor_laws.proofs.InPlace.{indexedTo, indexed-next, length-indexedTo, indexed-all}
 use Rattle.softmax.specs.Row.{scoreOf}
 use Rattle.softmax.specs.Lists.{elementOf, scoreRowsOf}
 use Rattle.tensor_laws.proofs.Tails.{length-part}
 use Rattle.softmax.proofs.Rows.{dot-part}
-use Rattle.softmax.proofs.score_few.Statement.{statement}
-use Rattle.softmax.proofs.score_few.Tie as tie
+use Rattle.scores.proofs.score_few.Statement.{statement}
+use Rattle.scores.proofs.score_few.Tie as tie
 
 -- what an element becomes: the score of key j
 abbrev eachOf : List Float → List Float → ℕ → Float → ℕ → Float → Float
