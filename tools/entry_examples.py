@@ -210,16 +210,21 @@ def refused_lengths():
 
 
 def refused_contents():
+    show_filled("7 -1 at 0", COUNTED, ("live", 0, -1))
     for label, count in ("-1", -1), ("T + 1", 4), ("least", -2 ** 63), ("largest", 2 ** 63 - 1):
         show_filled(f"7 {label}", COUNTED, ("live", 1, count))
+    show_filled("8 byte 2 at 0", CACHED, ("boolean_mask", 0, 2))
     show_filled("8 byte 2", CACHED, ("boolean_mask", 4, 2))
     show_filled("8 byte 255", CACHED, ("boolean_mask", 1, 255))
+    show_filled("8 NaN at 0", COUNTED, ("float_mask", 0, NAN))
     show_filled("8 NaN", COUNTED, ("float_mask", 3, NAN))
     show_filled("8 infinity", COUNTED, ("float_mask", 1, INFINITY))
     show_filled("8 NaN at a padded position", COUNTED, ("float_mask", 2, NAN))
     for name, index, x in (("query", 3, NAN), ("past_key", 2, INFINITY), ("key", 5, -INFINITY), ("past_value", 1, ABOVE),
                            ("value", 2, -ABOVE)):
         show_filled(f"9 {name.replace('_', ' ')}", CACHED, (name, index, x))
+    for name in "query", "past_key", "key", "past_value", "value":
+        show_filled(f"9 {name.replace('_', ' ')} at 0", CACHED, (name, 0, 65537.0))
     for name, index, x in (("query", 3, 65536.0), ("past_key", 2, -65536.0), ("key", 5, 65536.0), ("past_value", 1, -65536.0),
                            ("value", 2, 65536.0)):
         show_filled(f"{name.replace('_', ' ')} {x:.0f}", CACHED, (name, index, x))
@@ -231,6 +236,12 @@ def refused_contents():
     show_filled("value padded, second batch", COUNTED, ("value", 5, INFINITY))
     show_filled("9 key hidden by the mask", CACHED, ("key", 1, INFINITY))
     show_filled("9 key hidden by the causal flag", replace(SMALL, causal=1), ("key", 5, 65537.0))
+    for label, form, live, index in (("9 key at 63", "plain", [], 63), ("9 key at 64", "plain", [], 64),
+                                     ("9 key at 199", "plain", [], 199), ("9 key at 127 counted", "counted", [1], 127),
+                                     ("key at 127 padded", "counted", [0], 127)):
+        key = [1.0] * 200
+        key[index] = NAN
+        show(label, Record(form=form, head_size=200, scale=1.0), query=[1.0] * 200, key=key, value=[5.0], live=live)
 
 
 # Two refusals apply to each call
@@ -287,6 +298,8 @@ def accepted():
     show("-0 boolean mask", replace(quarter, mask_kind="boolean"), **minus_zero, boolean_mask=[1])
     for label, cell in ("0", 0.0), ("-0", -0.0):
         show(f"-0 float mask {label}", replace(quarter, mask_kind="float"), **minus_zero, float_mask=[cell])
+    show_filled("long rows", Record(form="cached", rank=3, causal=1, query_heads=4, key_heads=2, query_length=3, key_length=17,
+                                    past_length=20, head_size=33, value_size=35, score_mode=1))
 
 
 def print_lines():

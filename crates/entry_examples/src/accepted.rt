@@ -127,3 +127,47 @@ pub fn minus_zeros() {
     minus_zero(b"-0 float mask 0", MaskKind::Float, &[], &[0.0]);
     minus_zero(b"-0 float mask -0", MaskKind::Float, &[], &[-0.0]);
 }
+
+// A causal cached call of rank 3 with four query heads, two key heads, 3 queries, 17 incoming and 20 past positions, D 33, Dv 35.
+fn long_call<'a>(
+    query: &[f32],
+    key: &'a [f32],
+    value: &'a [f32],
+    pastkey: &'a [f32],
+    pastvalue: &'a [f32],
+) {
+    let mode = ScoreMode::Mode(1);
+    let call = records::record(Form::Cached, MaskKind::NoMask, Scale::Absent, mode);
+    let sized = records::with_dims(call, [1, 4, 2, 3, 17, 20, 33, 35]);
+    calls::run(
+        b"long rows",
+        records::with_rank(records::with_causal(sized, 1), 3),
+        query,
+        key,
+        value,
+        &[],
+        &[],
+        pastkey,
+        pastvalue,
+        &[],
+        &mut [7.5; 420],
+        &mut [7.5; 2442],
+        &mut [7.5; 2590],
+        &mut [7.5; 444],
+        &mut [7.5; 37],
+    );
+}
+
+pub fn long_rows() {
+    let mut query = [0.0; 396];
+    let mut key = [0.0; 1122];
+    let mut value = [0.0; 1190];
+    let mut pastkey = [0.0; 1320];
+    let mut pastvalue = [0.0; 1400];
+    tensors::fill(&mut query, 0, 396);
+    tensors::fill(&mut key, 2, 1122);
+    tensors::fill(&mut value, 4, 1190);
+    tensors::fill(&mut pastkey, 1, 1320);
+    tensors::fill(&mut pastvalue, 3, 1400);
+    long_call(&query, &key, &value, &pastkey, &pastvalue);
+}

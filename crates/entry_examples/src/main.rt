@@ -31,7 +31,9 @@ fn main() {
     refused::output_lengths();
     refused::contents();
     refused::elements();
+    refused::largest_elements();
     refused::padded_and_hidden();
+    refused::long_keys();
     refused::order();
     refused::order_of_tensors();
     accepted::ranks();
@@ -40,4 +42,5 @@ fn main() {
     accepted::repeated_masks();
     accepted::masked_caches();
     accepted::minus_zeros();
+    accepted::long_rows();
 }

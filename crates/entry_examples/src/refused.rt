@@ -1,4 +1,5 @@
 // Refusals 4 to 9 with each of their causes and its place, and calls with two faults that show the order.
+ghost use Prim.Native.Nat.{_<_};
 use super::calls;
 use super::records;
 use super::tensors;
@@ -112,12 +113,15 @@ pub fn output_lengths() {
 }
 
 pub fn contents() {
+    counted(b"7 -1 at 0", Fault::Count(0, -1));
     counted(b"7 -1", Fault::Count(1, -1));
     counted(b"7 T + 1", Fault::Count(1, 4));
     counted(b"7 least", Fault::Count(1, -9223372036854775808));
     counted(b"7 largest", Fault::Count(1, 9223372036854775807));
+    cached(b"8 byte 2 at 0", Fault::Byte(0, 2));
     cached(b"8 byte 2", Fault::Byte(4, 2));
     cached(b"8 byte 255", Fault::Byte(1, 255));
+    counted(b"8 NaN at 0", Fault::Cell(0, tensors::not_a_number()));
     counted(b"8 NaN", Fault::Cell(3, tensors::not_a_number()));
     counted(b"8 infinity", Fault::Cell(1, tensors::infinity()));
     counted(
@@ -132,6 +136,14 @@ pub fn elements() {
     cached(b"9 key", Fault::Element(2, 5, -tensors::infinity()));
     cached(b"9 past value", Fault::Element(3, 1, 65536.0078125));
     cached(b"9 value", Fault::Element(4, 2, -65536.0078125));
+    cached(b"9 query at 0", Fault::Element(0, 0, 65537.0));
+    cached(b"9 past key at 0", Fault::Element(1, 0, 65537.0));
+    cached(b"9 key at 0", Fault::Element(2, 0, 65537.0));
+    cached(b"9 past value at 0", Fault::Element(3, 0, 65537.0));
+    cached(b"9 value at 0", Fault::Element(4, 0, 65537.0));
+}
+
+pub fn largest_elements() {
     cached(b"query 65536", Fault::Element(0, 3, 65536.0));
     cached(b"past key -65536", Fault::Element(1, 2, -65536.0));
     cached(b"key 65536", Fault::Element(2, 5, 65536.0));
@@ -163,6 +175,25 @@ pub fn padded_and_hidden() {
         causal,
         Fault::Element(2, 5, 65537.0),
     );
+}
+
+// A key of 200 elements with a NaN at an index.
+fn long_key(label: &[u8], form: Form, live: &[i64], index: usize)
+    requires { ⌜ index < 200 ⌝ }
+{
+    let query = [1.0; 200];
+    let mut key = [1.0; 200];
+    key[index] = tensors::not_a_number();
+    let call = records::with_dims(records::simple(form), [1, 1, 1, 1, 1, 0, 200, 1]);
+    calls::show(label, call, &query, &key, &[5.0], &[], &[], &[], &[], live);
+}
+
+pub fn long_keys() {
+    long_key(b"9 key at 63", Form::Plain, &[], 63);
+    long_key(b"9 key at 64", Form::Plain, &[], 64);
+    long_key(b"9 key at 199", Form::Plain, &[], 199);
+    long_key(b"9 key at 127 counted", Form::Counted, &[1], 127);
+    long_key(b"key at 127 padded", Form::Counted, &[0], 127);
 }
 
 // Both with a float mask and two faults.
