@@ -254,7 +254,7 @@ pub fn weigh_admitted(
     while j < n {
         let e = run_end(kind, bytes, cells, at, width, from + j, from + n) - from;
         let start = j * stride;
-        softmax::weighted_rows(&weights[j..e], &values[start..], stride, out);
+        weighted_sum::weighted_rows(&weights[j..e], &values[start..], stride, out);
         j = e + 1;
     }
 }

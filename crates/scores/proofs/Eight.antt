@@ -1,17 +1,15 @@
 -- Eight sums at a time: a sum over the first elements of a row and of a key that starts at an index, one element more, the eight scores as a list, and scores in blocks. Assumes nothing.
 use mathlib.Core.Path.{_≡_, refl, sym, ap, _∙_}
-use mathlib.Core.List.{List, [], _∷_, _++_, append-assoc}
-use Prim.Native.Nat.{ℕ, _+_, _*_, _≤_}
+use mathlib.Core.List.{List, [], _∷_}
+use Prim.Native.Nat.{ℕ, _+_, _*_}
 use native.Mathlib.Nat.{zero-mul, zero-add, add-mul}
 use native.Mathlib.Numerals.{add-one}
 use native.Mathlib.Omega.{arith}
-use lib.ListN.{length, drop, set}
-use lib.Seq.{take-at, drop-at, drop-drop}
+use lib.ListN.{length, set}
 use lib.Ieee.{Float, nan, binary32, add, mul}
 use Rattle.exponential.specs.ExpNeg.{plusZero}
 use Rattle.tensor_laws.specs.Layout.{tabulate}
-use Rattle.tensor_laws.proofs.Tabulate.{length-tabulate, tabulate-ext, tabulate-append}
-use Rattle.tensor_laws.proofs.Parts.{withPart}
+use Rattle.tensor_laws.proofs.Tabulate.{tabulate-ext}
 use Rattle.tensor_laws.proofs.Tails.{partOf, getD-part}
 use Rattle.softmax.specs.Row.{dotOf, scoreOf}
 use Rattle.softmax.specs.Lists.{elementOf, scoreRowsOf}
@@ -83,15 +81,3 @@ scores-from q keys stride scale j n =
 pub scores-all : (q keys : List Float) (stride : ℕ) (scale : Float) (n : ℕ) → tabulate n (scoreOfKey q keys stride scale) ≡ scoreRowsOf q keys stride scale n
 unfolding scoreRowsOf
 scores-all q keys stride scale n = refl
-
--- a list whose first j elements are written, with a block of them more
-pub block-more : (f : ℕ → Float) (l : List Float) (j k n : ℕ) → k ≡ n → j + n ≤ length l
-    → withPart j k (tabulate j f ++ drop j l) (tabulate n (λ i. f (j + i))) ≡ tabulate (j + n) f ++ drop (j + n) l
-block-more f l j k n e h =
-    let first = tabulate j f in
-    let more = tabulate n (λ i. f (j + i)) in
-    let long : length first ≡ j = length-tabulate j f in
-    (λ i. take-at first (drop j l) j long i ++ (more ++ drop (e i) (drop-at first (drop j l) j long i)))
-    ∙ ap (λ (r : List Float). first ++ (more ++ r)) (drop-drop n j l)
-    ∙ sym (append-assoc first more (drop (j + n) l))
-    ∙ ap (λ (r : List Float). r ++ drop (j + n) l) (tabulate-append j n f)

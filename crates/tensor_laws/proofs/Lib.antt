@@ -5,3 +5,4 @@ pub mod InPlace
 pub mod Parts
 pub mod Written
 pub mod Tails
+pub mod Blocks

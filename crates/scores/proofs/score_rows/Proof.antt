@@ -10,16 +10,17 @@ use lib.ListN.{length, take, drop}
 use lib.Seq.{drop-length}
 use lib.Ieee.{Float}
 use Rattle.tensor_laws.specs.Layout.{tabulate}
-use Rattle.tensor_laws.proofs.Tabulate.{length-tabulate, tabulate-append}
+use Rattle.tensor_laws.proofs.Tabulate.{length-tabulate}
+use Rattle.tensor_laws.proofs.Blocks.{writtenTo, block-more, rest-written}
 use Rattle.tensor_laws.proofs.Parts.{withPart, length-part as length-middle}
-use Rattle.tensor_laws.proofs.Tails.{partOf, length-part, length-first, put-second}
+use Rattle.tensor_laws.proofs.Tails.{partOf, length-part, length-first}
 use Rattle.softmax.specs.Lists.{scoreRowsOf}
-use Rattle.scores.proofs.Eight.{scoreOfKey, scores-from, scores-all, block-more}
+use Rattle.scores.proofs.Eight.{scoreOfKey, scores-from, scores-all}
 use Rattle.scores.proofs.score_rows.Statement.{statement}
 use Rattle.scores.proofs.score_rows.Tie as tie
 
 abbrev Inv-loop : tie.InvT-loop
-Inv-loop q keys stride scale out₀ n j₀ out j = (j ≤ length out₀) × (out ≡ tabulate j (scoreOfKey q keys stride scale) ++ drop j out₀)
+Inv-loop q keys stride scale out₀ n j₀ out j = (j ≤ length out₀) × (out ≡ writtenTo (scoreOfKey q keys stride scale) j out₀)
 
 abbrev μ-loop : tie.MeasureT-loop
 μ-loop q keys stride scale out₀ n j₀ out j = length out₀ - j
@@ -183,13 +184,8 @@ finished c rest e =
     let start = startOf c in
     let s = start .args in
     let j = c .loop .j in
-    let n = length (s .out .now) - j in
-    let whole : j + n ≡ length (s .out .now) = omega (arith, c .loop .inv .0) in
-    ap (λ (o : List Float). putMid j (length o - j) o rest) (c .loop .inv .1)
-    ∙ put-second j (s .out .now) (tabulate j (scoreAt start)) (written-long c) (c .loop .inv .0) rest
-    ∙ ap (λ (r : List Float). tabulate j (scoreAt start) ++ r) (e ∙ scores-from (s .q .now) (s .keys .now) (s .stride) (s .scale) j (length (partOf j (c .loop .out))) ∙ ap (λ (m : ℕ). tabulate m (λ i. scoreAt start (j + i))) (rest-long c))
-    ∙ tabulate-append j n (scoreAt start)
-    ∙ ap (λ (m : ℕ). tabulate m (scoreAt start)) whole
+    rest-written (scoreAt start) (s .out .now) j (c .loop .out) rest (c .loop .inv .1) (c .loop .inv .0)
+    (e ∙ scores-from (s .q .now) (s .keys .now) (s .stride) (s .scale) j (length (partOf j (c .loop .out))) ∙ ap (λ (m : ℕ). tabulate m (λ i. scoreAt start (j + i))) (rest-long c))
     ∙ scores-all (s .q .now) (s .keys .now) (s .stride) (s .scale) (length (s .out .now))
 
 same-length : tie.Need-same-length Inv-loop μ-loop

@@ -1,0 +1,65 @@
+/* One call of the library and one of the plain C program of reference/, for tools/instructions.sh to count their instructions.
+ * Arguments: B Hq Hkv P S D. The call is cached and causal, with S positions after P past ones. */
+#include <stdio.h>
+#include <stdlib.h>
+#include <string.h>
+#include "../include/klaverdomp.h"
+#include "../reference/reference.h"
+
+static uint64_t state = 0x2545F4914F6CDD1DULL;
+
+/* numbers from -2 to 2 by a fixed rule (xorshift) */
+static float *tensor(size_t len)
+{
+    float *t = malloc((len ? len : 1) * sizeof *t);
+    if (!t) exit(2);
+    for (size_t i = 0; i < len; i++) {
+        state ^= state << 13;
+        state ^= state >> 7;
+        state ^= state << 17;
+        t[i] = (float)(state >> 40) / 4194304.0f - 2.0f;
+    }
+    return t;
+}
+
+int main(int argc, char **argv)
+{
+    if (argc != 7) return fprintf(stderr, "usage: instructions B Hq Hkv P S D\n"), 2;
+    uint64_t B = strtoull(argv[1], 0, 10), Hq = strtoull(argv[2], 0, 10), Hkv = strtoull(argv[3], 0, 10);
+    uint64_t P = strtoull(argv[4], 0, 10), S = strtoull(argv[5], 0, 10), D = strtoull(argv[6], 0, 10), T = P + S;
+    size_t nq = B * Hq * S * D, nk = B * Hkv * S * D, np = B * Hkv * P * D, nc = B * Hkv * T * D;
+    float *q = tensor(nq), *k = tensor(nk), *v = tensor(nk), *pk = tensor(np), *pv = tensor(np);
+    float *y = tensor(nq), *ck = tensor(nc), *cv = tensor(nc), *w = tensor(T);
+    float *y2 = tensor(nq), *ck2 = tensor(nc), *cv2 = tensor(nc), *w2 = tensor(T);
+
+    klaverdomp_call call = {0};
+    call.form = KLAVERDOMP_CACHED;
+    call.score_mode = KLAVERDOMP_NO_SCORES;
+    call.rank = 4;
+    call.causal = 1;
+    call.batches = B;
+    call.query_heads = Hq;
+    call.key_heads = Hkv;
+    call.query_length = S;
+    call.key_length = S;
+    call.past_length = P;
+    call.head_size = D;
+    call.value_size = D;
+    klaverdomp_tensors t = {0};
+    t.query = q, t.query_len = nq, t.key = k, t.key_len = nk, t.value = v, t.value_len = nk;
+    t.past_key = pk, t.past_key_len = np, t.past_value = pv, t.past_value_len = np;
+    t.output = y, t.output_len = nq, t.present_key = ck, t.present_key_len = nc, t.present_value = cv, t.present_value_len = nc;
+    t.work = w, t.work_len = T;
+    klaverdomp_answer ours = klaverdomp_attention(&call, &t);
+
+    struct reference_call rc = {FORM_CACHED, MASK_NONE, SCALE_ABSENT, SCORES_NONE, 4, 1, B, Hq, Hkv, S, S, P, D, D, {0}, 0.0f};
+    struct reference_inputs in = {{q, nq}, {k, nk}, {v, nk}, {0, 0}, {0, 0}, {pk, np}, {pv, np}, {0, 0}};
+    struct reference_outputs out = {{y2, nq}, {ck2, nc}, {cv2, nc}, {0, 0}, {w2, T}};
+    struct reference_answer theirs;
+    reference_attention(&rc, &in, &out, &theirs);
+
+    int same = ours.refusal == 0 && theirs.refusal == 0 && !memcmp(y, y2, nq * sizeof *y) && !memcmp(ck, ck2, nc * sizeof *y)
+        && !memcmp(cv, cv2, nc * sizeof *y) && !memcmp(w, w2, T * sizeof *y);
+    if (!same) return fprintf(stderr, "the two differ\n"), 1;
+    return 0;
+}

@@ -1,0 +1,38 @@
+#!/usr/bin/env bash
+# Instructions of one call, in millions, of the library and of the plain C program, as callgrind counts them: steady where times are not.
+# Without an argument the five shapes of `klaverdomp bench`, then a decode step as T grows and as B * Hq grows.
+# `tools/instructions.sh B Hq Hkv P S D` counts one shape. KLAVERDOMP_LIB_DIR names a folder with libklaverdomp.a.
+set -eu
+cd "$(dirname "$0")/.."
+library=${KLAVERDOMP_LIB_DIR:-target/staticlib}/libklaverdomp.a
+made=$(mktemp -d)
+trap 'rm -rf "$made"' EXIT
+gcc -O3 -ffp-contract=off -c reference/reference.c -o "$made/reference.o"
+gcc -O2 -Wall tools/instructions.c "$made/reference.o" "$library" -o "$made/instructions" -lm
+
+count() { # FUNCTION B Hq Hkv P S D
+    local function=$1
+    shift
+    valgrind --tool=callgrind --callgrind-out-file=/dev/null --toggle-collect="$function" "$made/instructions" "$@" 2>&1 |
+        awk '/Collected/ { printf "%.2f", $4 / 1e6; found = 1 } END { exit !found }'
+}
+
+shape() { # B Hq Hkv P S D
+    local ours theirs
+    ours=$(count klaverdomp_attention_1 "$@")
+    theirs=$(count reference_attention "$@")
+    printf 'B%s Hq%s Hkv%s P%s S%s D%s: library %s M, plain C %s M, ratio %.2f\n' "$@" "$ours" "$theirs" "$(echo "$ours $theirs" | awk '{ print $1 / $2 }')"
+}
+
+if [ $# -gt 0 ]; then
+    shape "$@"
+    exit
+fi
+shape 1 8 8 511 1 64
+shape 1 32 8 2047 1 128
+shape 8 8 8 255 1 64
+shape 1 8 8 0 512 64
+shape 1 8 2 0 2048 64
+for past in 127 255 511 1023 2047; do shape 1 8 8 "$past" 1 64; done
+for batches in 1 2 4 8; do shape "$batches" 8 8 511 1 64; done
+for heads in 8 16 32; do shape 1 "$heads" "$heads" 511 1 64; done
