@@ -14,7 +14,7 @@ returns c = rw (lt-ltb _ _ (c .if1 .taken))
 
 returns-2 : tie.Need-returns-2
 unfolding strideFrom
-returns-2 c = rw (le-ltb _ _ (c .before .before .if1 .left), eq-eqb _ _ (c .if2 .taken))
+returns-2 c = rw (le-ltb _ _ (c .before .before .if1 .left), eq-eqb (c .before .before .before .before .args .call .rank) 4 (c .if2 .taken))
 
 mul-result : tie.Need-mul-result
 mul-result c =
@@ -25,7 +25,7 @@ mul-result c =
 
 returns-3 : tie.Need-returns-3
 unfolding strideFrom
-returns-3 c = rw (le-ltb _ _ (c .before .before .before .if1 .left), ne-eqb _ _ (c .before .if2 .left))
+returns-3 c = rw (le-ltb _ _ (c .before .before .before .if1 .left), ne-eqb (c .before .before .before .before .before .args .call .rank) 4 (c .before .if2 .left))
 
 pub row-stride-spec : {M : Type 1} → statement M
 row-stride-spec = tie.close (tie.spec returns returns-2 mul-result returns-3)
