@@ -1,7 +1,9 @@
 -- `klaverdomp::klaverdomp_power_entry_1` meets its contract: each of the two answers is told as the definition says. Assumes nothing.
-use mathlib.Core.Path.{sym}
+use mathlib.Core.Path.{_≡_, sym, _∙_}
 use lib.Ieee.{ofBits}
 use borrow.Author.Needs.{needs}
+use Rattle.exponential.specs.Power.{powerEntryOf}
+use Rattle.exponential.specs.declared.PowerEntry.the-variants.{Entry, NoEntry}
 use Rattle.klaverdomp.proofs.klaverdomp_power_entry_1.Statement.{statement}
 use Rattle.klaverdomp.proofs.klaverdomp_power_entry_1.Tie as tie
 
@@ -16,11 +18,18 @@ enum-told c = search needs
 
 returns : tie.Need-returns
 unfolding ofBits
-returns c = let x = c .before in rw (sym (x .before .before .power-entry .ensures), x .x .given .1)
+returns c =
+    let x = c .before in
+    let s = x .before .before in
+    let is : powerEntryOf (s .before .args .index) ≡ Entry (x .x .given .0 .0) = sym (s .power-entry .ensures) ∙ x .x .given .1 in
+    rw is
 
 returns-2 : tie.Need-returns-2
 unfolding ofBits
-returns-2 c = rw (sym (c .before .before .power-entry .ensures), c .enum-told .given .1)
+returns-2 c =
+    let s = c .before .before in
+    let is : powerEntryOf (s .before .args .index) ≡ NoEntry = sym (s .power-entry .ensures) ∙ c .enum-told .given .1 in
+    rw is
 
 pub klaverdomp-power-entry-1-spec : {M : Type 1} → statement M
 klaverdomp-power-entry-1-spec =
