@@ -2,8 +2,10 @@
 use borrow.Author.Needs.{needs}
 use Rattle.rows.proofs.effective_scale.Statement.{statement}
 use Rattle.rows.proofs.effective_scale.Tie as tie
-use mathlib.Core.Path.{sym}
+use mathlib.Core.Path.{_≡_, sym, _∙_}
 use lib.Ieee.{ofBits}
+use Rattle.exponential.specs.Scale.{defaultScaleOf}
+use Rattle.exponential.specs.declared.DefaultScale.the-variants.{Scale, NoScale}
 use Rattle.attention.specs.Formula.{effectiveScale}
 
 enum-known-scale : tie.Need-enum-known-scale
@@ -30,13 +32,15 @@ unfolding effectiveScale
 returns-2 c =
     let d = c .before in
     let s = d .before .before in
-    rw (s .before .enum-told .given .1, sym (s .default-scale .ensures), d .default .given .1)
+    let is : defaultScaleOf (s .before .before .before .args .call .size) ≡ Scale (d .default .given .0 .0) = sym (s .default-scale .ensures) ∙ d .default .given .1 in
+    rw (s .before .enum-told .given .1, is)
 
 returns-3 : tie.Need-returns-3
 unfolding effectiveScale ofBits
 returns-3 c =
     let s = c .before .before in
-    rw (s .before .enum-told .given .1, sym (s .default-scale .ensures), c .enum-told2 .given .1)
+    let is : defaultScaleOf (s .before .before .before .args .call .size) ≡ NoScale = sym (s .default-scale .ensures) ∙ c .enum-told2 .given .1 in
+    rw (s .before .enum-told .given .1, is)
 
 pub effective-scale-spec : {M : Type 1} → statement M
 effective-scale-spec =
