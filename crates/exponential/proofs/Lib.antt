@@ -7,3 +7,4 @@ pub mod Rest
 pub mod Bounds
 pub mod HalvedBits
 pub mod Laws
+pub mod Blocks

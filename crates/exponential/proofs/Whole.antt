@@ -35,11 +35,15 @@ no-mag m u U h = elim (eq-zero-or-pos m) [ inl e ↦ e | inr p ↦ absurd (clash
     clash : (z : ℕ) → 0 < z → 0 ≡ z → ⊥
     clash z a b = omega arith
 
-negative : (m : ℕ) (e : ℤ) → T (fits binary32 (fin true m e)) → T (le plusZero (fin true m e)) → fin true m e ≡ minusZero
+zero-magnitude : (m : ℕ) (e : ℤ) → T (le plusZero (fin true m e)) → m ≡ 0
 unfolding le
-negative m e t h =
+zero-magnitude m e h =
     let z : 0 * down e ≡ m * up e * 1 = eqb→eq (0 * down e) (m * up e * 1) (and-l (eqb (0 * down e) (m * up e * 1)) (eqb (0 * down e) 0) h) in
-    let m0 : m ≡ 0 = no-mag m (up e) (up-pos e) (sym (zero-mul (down e)) ∙ z ∙ mul-one (m * up e)) in
+    no-mag m (up e) (up-pos e) (sym (zero-mul (down e)) ∙ z ∙ mul-one (m * up e))
+
+negative : (m : ℕ) (e : ℤ) → T (fits binary32 (fin true m e)) → T (le plusZero (fin true m e)) → fin true m e ≡ minusZero
+negative m e t h =
+    let m0 = zero-magnitude m e h in
     same-value binary32 (fin true m e) minusZero true 0 1 (lit< tt) t (unfold fits in tt)
     (refl, ap (λ (k : ℕ). k * up e * 1) m0 ∙ ap (λ (k : ℕ). k * 1) (zero-mul (up e)) ∙ sym (zero-mul (down e))) (refl, refl)
 
@@ -87,6 +91,21 @@ pub whole-lt : (y : Float) → Ranged y → wholePartOf y < 30720
 whole-lt y r =
     subst (λ (n : ℕ). n < 30720) (sym (whole-part y r))
     (div-lt-iff-lt-mul (pow-pos (r .parts .w)) .1 (scaled-under (r .parts .q) (2 ^ r .parts .w) (r .under)))
+
+-- the same of every y in range
+pub whole-in-range : (y : Float) → T (inRange y) → wholePartOf y < 30720
+unfolding le lt
+whole-in-range nan h = absurd h
+whole-in-range (inf true) h = absurd h
+whole-in-range (inf false) h = absurd h
+whole-in-range (fin true m e) h =
+    let z = zero-magnitude m e (and-l (le plusZero (fin true m e)) (lt (fin true m e) limit) h) in
+    div-lt-iff-lt-mul (down-pos e) .1 (none (m * up e) (down e) (ap (λ (k : ℕ). k * up e) z ∙ zero-mul (up e)) (down-pos e))
+  where
+    none : (x d : ℕ) → x ≡ 0 → 0 < d → 256 * x < 30720 * d
+    none x d e h = omega arith
+whole-in-range (fin false m e) h =
+    div-lt-iff-lt-mul (down-pos e) .1 (scaled-under (m * up e) (down e) (under-limit m e (and-r (le plusZero (fin false m e)) (lt (fin false m e) limit) h)))
 
 -- ---- 256 * y is exact
 

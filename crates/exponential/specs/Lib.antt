@@ -1,3 +1,4 @@
 pub mod Power
 pub mod Scale
 pub mod ExpNeg
+pub mod Blocks

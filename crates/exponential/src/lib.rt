@@ -4,10 +4,13 @@ mod table;
 
 ghost use mathlib.Core.Path.{_≡_};
 ghost use lib.Dec.{T};
-ghost use Prim.Native.Nat.{_≤_};
+ghost use Prim.Native.Nat.{ℕ, _≤_, _<_};
+ghost use mathlib.Core.List.{map, zipWith};
+ghost use lib.ListN.{length, getD};
 ghost use Rattle.exponential.specs.Power.{powerBits, powerEntryOf};
 ghost use Rattle.exponential.specs.Scale.{defaultScaleOf};
-ghost use Rattle.exponential.specs.ExpNeg.{inRange, wholePartOf, belowLimitOf, expNegOf, expNegRowOf, valueOrZero};
+ghost use Rattle.exponential.specs.ExpNeg.{inRange, wholePartOf, restOf, polyOf, belowLimitOf, expNegOf, expNegRowOf};
+ghost use Rattle.exponential.specs.Blocks.{exponentOf, exponentsOf, Exponent, Exponents, polysOf, timesPower};
 
 // The bits of LOG2E, C1 and C2.
 const LOG2E: u32 = 0x3fb8aa3b;
@@ -105,14 +108,107 @@ pub fn exp_neg(d: f32) -> Exponential
     exp_neg_by(&powers, d)
 }
 
-fn exp_neg_or_zero(powers: &[u32; 256], d: f32) -> f32
-    requires { ⌜ now powers ≡ powerBits ⌝ }
-    ensures { λ r. ⌜ r ≡ valueOrZero (expNegOf d) ⌝ }
+// d * LOG2E where E(d) has a value above +0, and otherwise 127, at which the steps below give +0.
+fn exponent_of(d: f32) -> f32
+    ensures { λ r. ⌜ r ≡ exponentOf d ⌝ }
 {
-    match exp_neg_by(powers, d) {
-        Exponential::Value(x) => x,
-        Exponential::NoValue => 0.0,
+    let y = d * f32::from_bits(LOG2E);
+    if 0.0 <= d {
+        if y < 120.0 {
+            return y;
+        }
     }
+    127.0
+}
+
+fn exponents(row: &mut [f32], largest: f32)
+    ensures { λ _. ⌜ now (row .exit) ≡ exponentsOf largest (now (row .entry)) ⌝ }
+{
+    let mut i = 0;
+    while i < row.len() {
+        row[i] = exponent_of(largest - row[i]);
+        i += 1;
+    }
+}
+
+// The largest whole number not above 256 y, also at y = 127.
+fn whole_or_limit(y: f32) -> u32
+    requires { ⌜ Exponent y ⌝ }
+    ensures { λ n. ⌜ n ≡ wholePartOf y ⌝ }
+{
+    if y < 120.0 { whole_part(y) } else { 32512 }
+}
+
+fn whole_parts(row: &[f32], wholes: &mut [u32])
+    requires { ⌜ length (now row) ≡ length (now wholes) ⌝ }
+    requires { ⌜ Exponents (now row) ⌝ }
+    ensures { λ _. ⌜ now (wholes .exit) ≡ map wholePartOf (now (row .entry)) ⌝ }
+{
+    let mut i = 0;
+    while i < row.len() {
+        wholes[i] = whole_or_limit(row[i]);
+        i += 1;
+    }
+}
+
+// The polynomial at the rest of y, by the whole part n.
+fn poly_at(y: f32, n: u32) -> f32
+    requires { ⌜ n ≡ wholePartOf y ⌝ }
+    requires { ⌜ n ≤ 32512 ⌝ }
+    ensures { λ r. ⌜ r ≡ polyOf (restOf y) ⌝ }
+{
+    let r = y - n as f32 / 256.0;
+    1.0 - r * (f32::from_bits(C1) - r * f32::from_bits(C2))
+}
+
+fn polys(row: &mut [f32], wholes: &[u32])
+    requires { ⌜ now wholes ≡ map wholePartOf (now row) ⌝ }
+    requires { ⌜ Exponents (now row) ⌝ }
+    ensures { λ _. ⌜ now (row .exit) ≡ polysOf (now (row .entry)) ⌝ }
+{
+    let mut i = 0;
+    while i < row.len() {
+        row[i] = poly_at(row[i], wholes[i]);
+        i += 1;
+    }
+}
+
+// (P[f] * p) * 2^-k, with k = n / 256 and f = n mod 256; for n = 127 * 256 the last factor is +0.
+fn times_power(powers: &[u32; 256], n: u32, p: f32) -> f32
+    requires { ⌜ now powers ≡ powerBits ⌝ }
+    requires { ⌜ n ≤ 32512 ⌝ }
+    ensures { λ r. ⌜ r ≡ timesPower n p ⌝ }
+{
+    let at = (n % 256) as usize;
+    let halving = f32::from_bits((127 - n / 256) * 8388608);
+    f32::from_bits(powers[at]) * p * halving
+}
+
+fn times_powers(powers: &[u32; 256], row: &mut [f32], wholes: &[u32])
+    requires { ⌜ now powers ≡ powerBits ⌝ }
+    requires { ⌜ length (now wholes) ≡ length (now row) ⌝ }
+    requires { ⌜ ((k : ℕ) → k < length (now wholes) → getD (now wholes) k 0 ≤ 32512) ⌝ }
+    ensures { λ _. ⌜ now (row .exit) ≡ zipWith timesPower (now (wholes .entry)) (now (row .entry)) ⌝ }
+{
+    let mut i = 0;
+    while i < row.len() {
+        row[i] = times_power(powers, wholes[i], row[i]);
+        i += 1;
+    }
+}
+
+// E over at most 64 elements, each step over all of them before the next.
+fn exp_block(powers: &[u32; 256], row: &mut [f32], largest: f32)
+    requires { ⌜ now powers ≡ powerBits ⌝ }
+    requires { ⌜ length (now row) ≤ 64 ⌝ }
+    ensures { λ _. ⌜ now (row .exit) ≡ expNegRowOf largest (now (row .entry)) ⌝ }
+{
+    let mut wholes = [0; 64];
+    let n = row.len();
+    exponents(row, largest);
+    whole_parts(row, &mut wholes[..n]);
+    polys(row, &wholes[..n]);
+    times_powers(powers, row, &wholes[..n]);
 }
 
 // Each element s of the row becomes E(largest - s), and +0 where that has no value. The table is bound once.
@@ -120,9 +216,12 @@ pub fn exp_neg_row(row: &mut [f32], largest: f32)
     ensures { λ _. ⌜ now (row .exit) ≡ expNegRowOf largest (now (row .entry)) ⌝ }
 {
     let powers = table::POWERS;
-    let mut i = 0;
-    while i < row.len() {
-        row[i] = exp_neg_or_zero(&powers, largest - row[i]);
-        i += 1;
+    let n = row.len();
+    let mut done = 0;
+    while 64 <= n - done {
+        let e = done + 64;
+        exp_block(&powers, &mut row[done..e], largest);
+        done = e;
     }
+    exp_block(&powers, &mut row[done..], largest);
 }
