@@ -22,7 +22,7 @@ use Rattle.exponential.specs.ExpNeg.{plusZero, limit, log2e, inRange, wh
 use Rattle.exponential.specs.Blocks.{beyond, exponentOf, exponentsOf, Exponent, Exponents, polysOf, timesPower}
 use Rattle.exponential.proofs.Whole.{whole-in-range}
 use Rattle.exponential.proofs.HalvedBits.{halved-bits}
-use Rattle.exponential.proofs.Laws.{hasValue, value-where, no-value-where, value-at-limit, scaled-below, in-range-below}
+use Rattle.exponential.proofs.Laws.{fails, hasValue, has-value, value-where, no-value-where, value-at-limit, scaled-below, in-range-below}
 
 -- ---- the exponent, by the two tests
 
@@ -61,14 +61,8 @@ scaled-not-nan (inf true) h = absurd (unfold le in h)
 scaled-not-nan (inf false) h = unfold mul log2e isNan in tt
 scaled-not-nan (fin s m e) h = mul-not-nan binary32 (fin s m e) log2e tt (unfold log2e in tt)
 
-neither : (a b : Bool) → T (not a) → T (not b) → T (not (a || b))
-neither false false s t = tt
-
-has-value : (d : Float) → T (le plusZero d) → T (hasValue d)
-has-value d h = neither (isNan d) (lt d plusZero) (not-nan d h) (not-lt-of-le plusZero d h)
-
-fails : (b : Bool) → b ≡ false → T (not b)
-fails b e = subst (λ (z : Bool). T (not z)) (sym e) tt
+valued : (d : Float) → T (le plusZero d) → T (hasValue d)
+valued d h = has-value d (not-nan d h) (not-lt-of-le plusZero d h)
 
 not-le-of-lt : (x y : Float) → T (lt x y) → T (not (le y x))
 not-le-of-lt x y h = not-T (le y x) (λ g. T-not (lt x y) (not-lt-of-le y x g) h)
@@ -94,7 +88,7 @@ inside d a b =
     let r : T (inRange (scaled d)) = in-range-below d (not-nan d a) (not-lt-of-le plusZero d a) u in
     record {
       kind = inr (subst (λ (y : Float). T (inRange y)) (sym e) r);
-      value = ap stepsOf e ∙ steps-in-range (scaled d) r ∙ sym (ap valueOrZero (value-where d (has-value d a)) ∙ scaled-below (scaled d) u);
+      value = ap stepsOf e ∙ steps-in-range (scaled d) r ∙ sym (ap valueOrZero (value-where d (valued d a)) ∙ scaled-below (scaled d) u);
     }
 
 outside : (d : Float) → exponentOf d ≡ beyond → valueOrZero (expNegOf d) ≡ plusZero → Stepped d
@@ -107,7 +101,7 @@ stepped d = go (le plusZero d) (lt (scaled d) limit) refl refl
     go true true p q = inside d (passes (le plusZero d) p) (passes (lt (scaled d) limit) q)
     go true false p q =
         let a = passes (le plusZero d) p in
-        outside d (exponent-by d true false p q) (ap valueOrZero (value-at-limit d (has-value d a) (le-of-not-lt (scaled d) limit (scaled-not-nan d a) (unfold isNan in tt) (fails (lt (scaled d) limit) q))))
+        outside d (exponent-by d true false p q) (ap valueOrZero (value-at-limit d (valued d a) (le-of-not-lt (scaled d) limit (scaled-not-nan d a) (unfold isNan in tt) (fails (lt (scaled d) limit) q))))
     go false b p q = outside d (exponent-by d false b p q) (ap valueOrZero (no-value-where d (no-value d (fails (le plusZero d) p))))
 
 -- the whole part of an exponent

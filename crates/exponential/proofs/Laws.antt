@@ -19,6 +19,10 @@ use Rattle.exponential.specs.ExpNeg.{plusZero, one, limit, log2e, inRang
 use Rattle.exponential.proofs.Whole.{minusZero, in-range}
 use Rattle.exponential.proofs.Bounds.{below-limit-within}
 
+-- a test that failed
+pub fails : (b : Bool) → b ≡ false → T (not b)
+fails b e = subst (λ (z : Bool). T (not z)) (sym e) tt
+
 -- a number from 0 to 1, and never -0
 pub record InUnit (x : Float) : Type 0 where
   pub sign : T (plus x)
@@ -86,6 +90,12 @@ hasValue d = not (isNan d || lt d plusZero)
 
 neither : (a b : Bool) → T (not (a || b)) → T (not a) × T (not b)
 neither false false t = (tt, tt)
+
+not-either : (a b : Bool) → T (not a) → T (not b) → T (not (a || b))
+not-either false false s t = tt
+
+pub has-value : (d : Float) → T (not (isNan d)) → T (not (lt d plusZero)) → T (hasValue d)
+has-value d p q = not-either (isNan d) (lt d plusZero) p q
 
 pub value-where : (d : Float) → T (hasValue d) → expNegOf d ≡ Value (scaledOf (mul binary32 d log2e))
 unfolding expNegOf

@@ -8,3 +8,4 @@ pub mod Bounds
 pub mod HalvedBits
 pub mod Laws
 pub mod Blocks
+pub mod Near

@@ -131,12 +131,23 @@ fn exponents(row: &mut [f32], largest: f32)
     }
 }
 
+// The same by rounding: 256 y + 2^23 is rounded to a whole number, which is 2^23 + n or 2^23 + n + 1.
+fn whole_near(y: f32) -> u32
+    requires { ⌜ T (inRange y) ⌝ }
+    ensures { λ n. ⌜ n ≡ wholePartOf y ⌝ }
+{
+    let x = y * 256.0;
+    let t = x + 8388608.0;
+    let n = f32::to_bits(t) - 0x4b000000;
+    if x < t - 8388608.0 { n - 1 } else { n }
+}
+
 // The largest whole number not above 256 y, also at y = 127.
 fn whole_or_limit(y: f32) -> u32
     requires { ⌜ Exponent y ⌝ }
     ensures { λ n. ⌜ n ≡ wholePartOf y ⌝ }
 {
-    if y < 120.0 { whole_part(y) } else { 32512 }
+    if y < 120.0 { whole_near(y) } else { 32512 }
 }
 
 fn whole_parts(row: &[f32], wholes: &mut [u32])

@@ -7,7 +7,7 @@ use lib.Ieee.Compare.{differs-from-itself, nan-differs}
 use denote.Floats.{passes}
 use Rattle.exponential.specs.declared.Exponential.the-variants.{Value}
 use Rattle.exponential.specs.ExpNeg.{plusZero, limit, log2e}
-use Rattle.exponential.proofs.Laws.{hasValue, value-where, no-value-where, value-at-limit, in-range-below, scaled-below}
+use Rattle.exponential.proofs.Laws.{fails, hasValue, has-value, value-where, no-value-where, value-at-limit, in-range-below, scaled-below}
 use Rattle.exponential.proofs.exp_neg_by.Statement.{statement}
 use Rattle.exponential.proofs.exp_neg_by.Tie as tie
 
@@ -19,12 +19,6 @@ left false b t = absurd t
 right : (a b : Bool) → T b → T (a || b)
 right true b t = tt
 right false b t = t
-
-neither : (a b : Bool) → T (not a) → T (not b) → T (not (a || b))
-neither false false s t = tt
-
-fails : (b : Bool) → b ≡ false → T (not b)
-fails b e = subst (λ (z : Bool). T (not z)) (sym e) tt
 
 is-nan : (d : Float) → ne d d ≡ true → T (isNan d)
 is-nan d e = subst (λ (x : Float). T (isNan x)) (sym (differs-from-itself d (passes (ne d d) e))) (unfold isNan in tt)
@@ -53,7 +47,7 @@ unfolding ofBits
 tested c = let d = c .before .before .args .d in (not-nan d (c .before .if1 .left), fails (lt d plusZero) (c .if2 .left))
 
 valued : (c : tie.Else2) → T (hasValue (c .before .before .args .d))
-valued c = let d = c .before .before .args .d in let t = tested c in neither (isNan d) (lt d plusZero) (t .0) (t .1)
+valued c = let d = c .before .before .args .d in let t = tested c in has-value d (t .0) (t .1)
 
 returns-3 : tie.Need-returns-3
 unfolding ofBits log2e

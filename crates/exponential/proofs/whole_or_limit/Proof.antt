@@ -19,9 +19,9 @@ past : (y : Float) → Exponent y → lt y limit ≡ false → y ≡ beyond
 past y (inl e) h = e
 past y (inr r) h = absurd (subst T h (and-r (le plusZero y) (lt y limit) r))
 
-whole-part-requires : tie.Need-whole-part-requires
+whole-near-requires : tie.Need-whole-near-requires
 unfolding ofBits
-whole-part-requires c κs = below (c .before .args .y) (c .before .pre) (c .if1 .taken)
+whole-near-requires c κs = below (c .before .args .y) (c .before .pre) (c .if1 .taken)
 
 returns : tie.Need-returns
 returns c = search needs
@@ -31,4 +31,4 @@ unfolding ofBits
 returns-2 c = sym (ap wholePartOf (past (c .before .args .y) (c .before .pre) (c .if1 .left)))
 
 pub whole-or-limit-spec : {M : Type 1} → statement M
-whole-or-limit-spec = tie.close (tie.spec whole-part-requires returns returns-2)
+whole-or-limit-spec = tie.close (tie.spec whole-near-requires returns returns-2)
