@@ -10,7 +10,7 @@ use lib.Arith.{digits-lt, digits-div, digits-mod}
 use lib.Dec.{ltb}
 use borrow.Author.Tests.{lt-ltb, le-ltb, eq-eqb, ne-eqb}
 use Rattle.tensor_laws.specs.Layout.{slot}
-use Rattle.caches.specs.Rows.{inHead}
+use Rattle.caches.specs.Rows.{inHead, headsBefore}
 
 -- ---- the rows of key head g in batch b below position j
 abbrev pub headBefore : ℕ → ℕ → ℕ → ℕ → ℕ → ℕ → Bool
@@ -46,9 +46,7 @@ module _ (b g : ℕ) where
       go (yes p) (no y) = rw (eq-eqb b′ b p, ne-eqb g′ g y)
       go (yes p) (yes q) = ap (λ (t : Bool). inHead b g b′ g′ s′ && t) (ltb-next s′ j (λ z. x (λ i. slot 4 heads len (p i) (q i) (z i))))
 
--- ---- the rows of the key heads below number n, where the heads of all batches are numbered one after the other
-abbrev pub headsBefore : ℕ → ℕ → ℕ → ℕ → ℕ → Bool
-headsBefore heads n b′ g′ s′ = ltb (b′ * heads + g′) n
+-- ---- the rows of the heads before number n
 
 module _ (heads : ℕ) where
   pub heads-none : (b′ g′ s′ : ℕ) → headsBefore heads 0 b′ g′ s′ ≡ false

@@ -1,7 +1,7 @@
 -- The rows of the positions of one key head where they stand: in the past cache, which is always of rank 4, below P, and in the incoming tensor from there on. Definitions only.
 use mathlib.Core.Bool.{Bool, cond, _&&_}
 use mathlib.Core.List.{List}
-use Prim.Native.Nat.{ℕ, _-_, _*_}
+use Prim.Native.Nat.{ℕ, _+_, _-_, _*_}
 use lib.Dec.{ltb, eqb}
 use lib.ListN.{drop}
 use lib.Ieee.{Float}
@@ -21,3 +21,7 @@ strideFrom c size j = cond (ltb j (c .past)) size (cond (eqb (c .rank) 4) size (
 -- whether a row is one of key head g in batch b
 abbrev pub inHead : ℕ → ℕ → ℕ → ℕ → ℕ → Bool
 inHead b g b′ g′ s′ = eqb b′ b && eqb g′ g
+
+-- whether a row is one of the heads before number n, where the heads of all batches are numbered one after the other
+abbrev pub headsBefore : ℕ → ℕ → ℕ → ℕ → ℕ → Bool
+headsBefore heads n b′ g′ s′ = ltb (b′ * heads + g′) n

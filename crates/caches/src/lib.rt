@@ -5,7 +5,7 @@ ghost use mathlib.Core.Bool.{true};
 ghost use Prim.Native.Nat.{_*_, _≤_, _<_};
 ghost use lib.ListN.{length};
 ghost use lib.Ieee.{nan};
-ghost use Rattle.tensor_laws.specs.Layout.{slot, tensorOf, writtenOf};
+ghost use Rattle.tensor_laws.specs.Layout.{slot, writtenOf};
 ghost use Rattle.call.specs.Limits.{totalOf, limitsHold};
 ghost use Rattle.attention.specs.Elements.{positionCell};
 ghost use Rattle.caches.specs.Fits.{RowFits, CacheFits, PresentFits};
@@ -67,8 +67,8 @@ pub fn row_stride(call: Call, size: usize, j: usize) -> usize
     call.kvheads * size
 }
 
-// The rows of key head g in batch b, each copied whole to its place in the present cache.
-fn copy_head<'a>(
+// The present cache's rows of key head g in batch b: the past rows and then the incoming rows, each copied whole.
+pub fn copy_head<'a>(
     call: Call,
     past: &'a [f32],
     incoming: &'a [f32],
@@ -92,19 +92,5 @@ fn copy_head<'a>(
             &mut out[a..e],
         );
         j += 1;
-    }
-}
-
-// The present cache: for each batch and key head the past rows and then the incoming rows, each row copied whole.
-pub fn present<'a>(call: Call, past: &'a [f32], incoming: &'a [f32], size: usize, out: &mut [f32])
-    requires { ⌜ PresentFits call (length (now past)) (length (now incoming)) (length (now out)) size ⌝ }
-    ensures { λ _. ⌜ now (out .exit) ≡ tensorOf 4 (call .batches) (call .kvheads) (totalOf call) size (positionCell call (now (past .entry)) (now (incoming .entry)) size) ⌝ }
-{
-    let heads = call.kvheads;
-    let count = call.batches * heads;
-    let mut n = 0;
-    while n < count {
-        copy_head(call, past, incoming, size, n / heads, n % heads, out);
-        n += 1;
     }
 }

@@ -23,13 +23,13 @@ use Rattle.call.specs.Lengths.{outputLength, scoresLength, inScores}
 use Rattle.call.specs.Tensors.{Inputs}
 use Rattle.call.proofs.Facts.{InLimits}
 use Rattle.attention.specs.Formula.{attentionOutput, attentionWeight, rowMasked, shownScore}
-use Rattle.attention.specs.Outcomes.{whereShown, outputTensor, scoresTensor, workRow, countWhere, maskedRowsOf}
+use Rattle.attention.specs.Outcomes.{whereShown, outputTensor, presentKeyTensor, presentValueTensor, scoresTensor, workRow, countWhere, maskedRowsOf}
 use Rattle.attention.proofs.Counting.{count-start, count-runs, count-agree}
 use Rattle.rows.specs.Unit.{shownAt, isUnitRow, HeadDone}
 use Rattle.rows.proofs.UnitRows.{scores-by-rows}
-use Rattle.caches.specs.Rows.{inHead}
-use Rattle.caches.proofs.Heads.{headsBefore, heads-none, heads-all, heads-next}
-use Rattle.entry.specs.Heads.{HeadsDone}
+use Rattle.caches.specs.Rows.{inHead, headsBefore}
+use Rattle.caches.proofs.Heads.{heads-none, heads-all, heads-next}
+use Rattle.entry.specs.Heads.{maskedNumber, HeadsTo, HeadsDone}
 
 -- ---- the rows done
 
@@ -48,27 +48,23 @@ heads-more heads len n b h i hh hi = heads-next heads n b h i hh ∙ ap (λ (t :
 -- ---- the fully masked rows
 
 module _ (c : Call) (x : Inputs) where
-  -- whether the row with the number m is fully masked
-  abbrev pub maskedNumber : ℕ → Bool
-  maskedNumber m = rowMasked c x (batchAt (c .qheads) (c .qlen) m) (headAt 4 (c .qheads) (c .qlen) m) (positionAt 4 (c .qheads) (c .qlen) m)
-
-  number-of : (n i : ℕ) → 0 < c .qheads → i < c .qlen → maskedNumber (n * c .qlen + i) ≡ rowMasked c x (n / c .qheads) (n % c .qheads) i
+  number-of : (n i : ℕ) → 0 < c .qheads → i < c .qlen → maskedNumber c x (n * c .qlen + i) ≡ rowMasked c x (n / c .qheads) (n % c .qheads) i
   number-of n i p hi =
       let b = n / c .qheads in
       let h = n % c .qheads in
       let hh : h < c .qheads = mod-lt n p in
-      ap (λ (m : ℕ). maskedNumber (m * c .qlen + i)) (sym (div-add-mod' n (c .qheads)))
+      ap (λ (m : ℕ). maskedNumber c x (m * c .qlen + i)) (sym (div-add-mod' n (c .qheads)))
       ∙ (λ k. rowMasked c x (batch-slot 4 (c .qheads) (c .qlen) b h i hh hi k) (head-slot 4 (c .qheads) (c .qlen) b h i hh hi k) (position-slot 4 (c .qheads) (c .qlen) b h i hh hi k))
 
   -- one head more
-  pub masked-next : (n : ℕ) → 0 < c .qheads → countWhere (n * c .qlen) maskedNumber + countWhere (c .qlen) (λ i. rowMasked c x (n / c .qheads) (n % c .qheads) (0 + i)) ≡ countWhere ((n + 1) * c .qlen) maskedNumber
+  pub masked-next : (n : ℕ) → 0 < c .qheads → countWhere (n * c .qlen) (maskedNumber c x) + countWhere (c .qlen) (λ i. rowMasked c x (n / c .qheads) (n % c .qheads) (0 + i)) ≡ countWhere ((n + 1) * c .qlen) (maskedNumber c x)
   masked-next n p =
-      ap (λ (m : ℕ). countWhere (n * c .qlen) maskedNumber + m) (count-agree (c .qlen) _ _ (λ i l. ap (rowMasked c x (n / c .qheads) (n % c .qheads)) (zero-add i) ∙ sym (number-of n i p l)))
-      ∙ sym (count-runs (n * c .qlen) (c .qlen) maskedNumber)
-      ∙ ap (λ (m : ℕ). countWhere m maskedNumber) (sym (ap (λ (m : ℕ). m * c .qlen) (add-one n) ∙ suc-mul n (c .qlen)))
+      ap (λ (m : ℕ). countWhere (n * c .qlen) (maskedNumber c x) + m) (count-agree (c .qlen) _ _ (λ i l. ap (rowMasked c x (n / c .qheads) (n % c .qheads)) (zero-add i) ∙ sym (number-of n i p l)))
+      ∙ sym (count-runs (n * c .qlen) (c .qlen) (maskedNumber c x))
+      ∙ ap (λ (m : ℕ). countWhere m (maskedNumber c x)) (sym (ap (λ (m : ℕ). m * c .qlen) (add-one n) ∙ suc-mul n (c .qlen)))
 
   -- all heads
-  pub masked-all : countWhere (c .batches * c .qheads * c .qlen) maskedNumber ≡ maskedRowsOf c x
+  pub masked-all : countWhere (c .batches * c .qheads * c .qlen) (maskedNumber c x) ≡ maskedRowsOf c x
   unfolding maskedRowsOf
   masked-all = refl
 
@@ -98,17 +94,8 @@ last-head batches heads p q = let l : heads - 1 < heads = omega arith in ap (λ 
 -- ---- the heads one after the other
 
 module _ (c : Call) (x : Inputs) (limits : InLimits c) (y₀ s₀ : List Float) where
-  -- the heads before head n are done
-  pub record Done (n : ℕ) (y s work : List Float) (masked : ℕ) : Type 0 where
-    pub high : n ≤ c .batches * c .qheads
-    pub output : y ≡ writtenOf (c .rank) (c .batches) (c .qheads) (c .qlen) (c .vsize) (headsBefore (c .qheads) n) (attentionOutput c x) nan y₀
-    pub scores : s ≡ writtenOf 4 (c .batches) (c .qheads) (c .qlen) (inScores (c .mode) (totalOf c)) (headsBefore (c .qheads) n) (shownAt (c .mode) c x) nan s₀
-    pub long : length work ≡ totalOf c
-    pub weights : 0 < n → work ≡ tabulate (totalOf c) (attentionWeight c x ((n - 1) / c .qheads) ((n - 1) % c .qheads) (c .qlen - 1))
-    pub blind : masked ≡ countWhere (n * c .qlen) (maskedNumber c x)
-
   -- before the first head
-  pub begun : (work : List Float) → length y₀ ≡ outputLength c → length s₀ ≡ scoresLength c → length work ≡ totalOf c → Done 0 y₀ s₀ work 0
+  pub begun : (work : List Float) → length y₀ ≡ outputLength c → length s₀ ≡ scoresLength c → length work ≡ totalOf c → HeadsTo c x y₀ s₀ 0 y₀ s₀ work 0
   begun work ly ls lw = record {
     high = zero-le;
     output = sym (written-none (c .rank) (c .batches) (c .qheads) (c .qlen) (c .vsize) (headsBefore (c .qheads) 0) (attentionOutput c x) nan y₀ ly (λ b h i p q r. heads-none (c .qheads) b h i));
@@ -122,8 +109,8 @@ module _ (c : Call) (x : Inputs) (limits : InLimits c) (y₀ s₀ : List Float) 
   }
 
   -- one head more
-  pub head-more : (n : ℕ) (y s work y' s' work' : List Float) (masked m : ℕ) → Done n y s work masked → n < c .batches * c .qheads
-      → HeadDone c x (n / c .qheads) (n % c .qheads) 0 (c .qlen) y s y' s' work' m → Done (n + 1) y' s' work' (masked + m)
+  pub head-more : (n : ℕ) (y s work y' s' work' : List Float) (masked m : ℕ) → HeadsTo c x y₀ s₀ n y s work masked → n < c .batches * c .qheads
+      → HeadDone c x (n / c .qheads) (n % c .qheads) 0 (c .qlen) y s y' s' work' m → HeadsTo c x y₀ s₀ (n + 1) y' s' work' (masked + m)
   head-more n y s work y' s' work' masked m d l r = record {
     high = omega arith;
     output =
@@ -142,13 +129,15 @@ module _ (c : Call) (x : Inputs) (limits : InLimits c) (y₀ s₀ : List Float) 
   }
 
   -- after the last head
-  pub finished : (n : ℕ) (y s work : List Float) (masked : ℕ) → Done n y s work masked → c .batches * c .qheads ≤ n → HeadsDone c x y s work masked
+  pub finished : (n : ℕ) (y k v s work : List Float) (masked : ℕ) → HeadsTo c x y₀ s₀ n y s work masked → c .batches * c .qheads ≤ n → k ≡ presentKeyTensor c x → v ≡ presentValueTensor c x → HeadsDone c x y k v s work masked
   unfolding outputTensor workRow
-  finished n y s work masked d l =
+  finished n y k v s work masked d l ek ev =
       let e : n ≡ c .batches * c .qheads = omega (arith, d .high) in
       let all : (b h i : ℕ) → b < c .batches → h < c .qheads → i < c .qlen → headsBefore (c .qheads) n b h i ≡ true = λ b h i hb hh hi. ap (λ (k : ℕ). headsBefore (c .qheads) k b h i) e ∙ heads-all (c .qheads) (c .batches) b h i hb hh in
       record {
         outputs = d .output ∙ written-all (c .rank) (c .batches) (c .qheads) (c .qlen) (c .vsize) (headsBefore (c .qheads) n) (attentionOutput c x) nan y₀ all;
+        keys = ek;
+        values = ev;
         shown = d .scores ∙ written-all 4 (c .batches) (c .qheads) (c .qlen) (inScores (c .mode) (totalOf c)) (headsBefore (c .qheads) n) (shownAt (c .mode) c x) nan s₀ all ∙ scores-shown c x;
         weights =
             d .weights (omega (arith, some-heads))
@@ -160,7 +149,7 @@ module _ (c : Call) (x : Inputs) (limits : InLimits c) (y₀ s₀ : List Float) 
       some-heads = mul-le-mul {n₂ = c .batches} {m₂ = c .qheads} (limits .batches-some) (limits .qheads-some)
 
   -- the tensors keep their lengths
-  module _ (n : ℕ) (y s work : List Float) (masked : ℕ) (d : Done n y s work masked) where
+  module _ (n : ℕ) (y s work : List Float) (masked : ℕ) (d : HeadsTo c x y₀ s₀ n y s work masked) where
     pub output-kept : length y ≡ outputLength c
     output-kept = ap length (d .output) ∙ length-written (c .rank) (c .batches) (c .qheads) (c .qlen) (c .vsize) (headsBefore (c .qheads) n) (attentionOutput c x) nan y₀
 
@@ -168,3 +157,16 @@ module _ (c : Call) (x : Inputs) (limits : InLimits c) (y₀ s₀ : List Float) 
     scores-kept =
         ap length (d .scores) ∙ length-written 4 (c .batches) (c .qheads) (c .qlen) (inScores (c .mode) (totalOf c)) (headsBefore (c .qheads) n) (shownAt (c .mode) c x) nan s₀
         ∙ sym (scores-by-rows (c .mode) (c .batches * c .qheads * c .qlen) (totalOf c))
+
+-- ---- the tensors keep their lengths in one head
+module _ (c : Call) (x : Inputs) (b h first count : ℕ) (y s y' s' work : List Float) (masked : ℕ) (d : HeadDone c x b h first count y s y' s' work masked) where
+  pub unit-output-long : length y' ≡ outputLength c
+  unit-output-long = ap length (d .output) ∙ length-written (c .rank) (c .batches) (c .qheads) (c .qlen) (c .vsize) (isUnitRow b h first count) (attentionOutput c x) nan y
+
+  pub unit-scores-long : length s' ≡ scoresLength c
+  unit-scores-long =
+      ap length (d .scores) ∙ length-written 4 (c .batches) (c .qheads) (c .qlen) (inScores (c .mode) (totalOf c)) (isUnitRow b h first count) (shownAt (c .mode) c x) nan s
+      ∙ sym (scores-by-rows (c .mode) (c .batches * c .qheads * c .qlen) (totalOf c))
+
+  pub unit-work-long : length work ≡ totalOf c
+  unit-work-long = ap length (d .weights) ∙ length-tabulate (totalOf c) _

@@ -1,151 +1,152 @@
--- `entry::all_heads` meets its contract. The loop's invariant: the heads before head n are done. Assumes nothing.
-use mathlib.Core.Path.{_≡_, sym, _∙_}
-use Prim.Native.Nat.{_+_, _-_, _*_, _/_, _%_, _≤_}
-use native.Mathlib.Nat.{mod-lt, div-lt-iff-lt-mul, mul-le-mul}
+-- `entry::all_heads` meets its contract: the heads of a cached call with their present caches, and those of any other call, which has none. Assumes nothing.
+use mathlib.Core.Path.{_≡_, ap, _∙_, subst}
+use mathlib.Core.List.{List}
+use Prim.Native.Nat.{ℕ, _+_, _*_, _≤_}
+use native.Mathlib.Nat.{mul-le-mul, zero-add}
 use native.Mathlib.Omega.{arith}
+use borrow.Author.Needs.{needs}
 use lib.ListN.{length}
-use Rattle.call.specs.Lengths.{outputLength, scoresLength}
+use lib.Ieee.{Float}
+use Rattle.tensor_laws.proofs.Tabulate.{none-long}
+use Rattle.call.specs.declared.Form.{Form}
+use Rattle.call.specs.declared.Form.the-variants.{Plain, Cached, Counted}
+use Rattle.call.specs.Limits.{totalOf}
+use Rattle.call.specs.Lengths.{inCached}
 use Rattle.call.specs.Tensors.{Inputs, inputsOf}
 use Rattle.call.proofs.Facts.{InLimits}
-use Rattle.attention.specs.Formula.{rowMasked}
-use Rattle.attention.proofs.Counting.{count-le}
+use Rattle.attention.specs.Outcomes.{presentKeyTensor, presentValueTensor, whereCached}
 use Rattle.rows.proofs.Ready.{limits}
-use Rattle.entry.proofs.Heads.{maskedNumber, Done, begun, head-more, finished, output-kept, scores-kept}
+use Rattle.entry.specs.Heads.{HeadsTo, HeadsDone}
+use Rattle.entry.proofs.Heads.{begun, finished}
 use Rattle.entry.proofs.all_heads.Statement.{statement}
 use Rattle.entry.proofs.all_heads.Tie as tie
 
-abbrev Inv-loop : tie.InvT-loop
-Inv-loop call scale query key value boolmask floatmask pastkey pastvalue live output₀ scores₀ work₀ heads rows all masked₀ n₀ output scores work masked n =
-    (within : InLimits call) × Done call (inputsOf query key value boolmask floatmask pastkey pastvalue live) within output₀ scores₀ n output scores work masked
-
-abbrev μ-loop : tie.MeasureT-loop
-μ-loop call scale query key value boolmask floatmask pastkey pastvalue live output₀ scores₀ work₀ heads rows all masked₀ n₀ output scores work masked n = all - n
-
-abbrev At : Type 0
-At = tie.At-loop Inv-loop μ-loop
-
-abbrev startOf : At → tie.Start Inv-loop μ-loop
-startOf c = c .before .before .before .before .before .before .before .before .before .before .before .before
-
-abbrev inputs : tie.Start Inv-loop μ-loop → Inputs
+abbrev inputs : tie.Start → Inputs
 inputs c = let s = c .args in inputsOf (s .query .now) (s .key .now) (s .value .now) (s .boolmask .now) (s .floatmask .now) (s .pastkey .now) (s .pastvalue .now) (s .live .now)
 
-mul-all : tie.Need-mul-all Inv-loop μ-loop
-mul-all c =
-    let l = limits (c .before .before .before .before .before .before .before .before .before .before .before .pre .0) in
-    omega (arith, mul-le-mul (l .batches-most) (l .qheads-most))
+within : (c : tie.Start) → InLimits (c .args .call)
+within c = limits (c .pre .0)
 
-loop-holds : tie.Need-loop-holds Inv-loop μ-loop
-loop-holds c =
-    let start = c .before .before .before .before .before .before .before .before .before .before .before in
-    let s = start .args in
-    let l = limits (start .pre .0) in
-    let q = start .pre .1 in
-    (l, begun (s .call) (inputs start) l (s .output .now) (s .scores .now) (s .work .now) (q .0) (q .1) (q .2))
+-- outside the cached form there are no present caches
+absent : (form : Form) (out t : List Float) (m : ℕ) → inCached form 1 ≡ 0 → length out ≡ inCached form m → out ≡ whereCached form t
+absent Plain out t m z l = none-long out l
+absent Cached out t m z l = absurd (omega arith)
+absent Counted out t m z l = none-long out l
 
--- the heads before head n
-abbrev done : (c : At) → let s = startOf c .args in Done (s .call) (inputs (startOf c)) (c .loop .inv .0) (s .output .now) (s .scores .now) (c .loop .n) (c .loop .output) (c .loop .scores) (c .loop .work) (c .loop .masked)
-done c = c .loop .inv .1
+no-keys : (c : tie.Start) → inCached (c .args .call .form) 1 ≡ 0 → c .args .presentkey .now ≡ presentKeyTensor (c .args .call) (inputs c)
+unfolding presentKeyTensor
+no-keys c z = let s = c .args in absent (s .call .form) (s .presentkey .now) _ (s .call .batches * s .call .kvheads * totalOf (s .call) * s .call .size) z (c .pre .1 .1 .0)
 
-output-long : (c : At) → length (c .loop .output) ≡ outputLength (startOf c .args .call)
-output-long c =
-    let s = startOf c .args in
-    output-kept (s .call) (inputs (startOf c)) (c .loop .inv .0) (s .output .now) (s .scores .now) (c .loop .n) (c .loop .output) (c .loop .scores) (c .loop .work) (c .loop .masked) (done c)
+no-values : (c : tie.Start) → inCached (c .args .call .form) 1 ≡ 0 → c .args .presentvalue .now ≡ presentValueTensor (c .args .call) (inputs c)
+unfolding presentValueTensor
+no-values c z = let s = c .args in absent (s .call .form) (s .presentvalue .now) _ (s .call .batches * s .call .kvheads * totalOf (s .call) * s .call .vsize) z (c .pre .1 .1 .1)
 
-scores-long : (c : At) → length (c .loop .scores) ≡ scoresLength (startOf c .args .call)
-scores-long c =
-    let s = startOf c .args in
-    scores-kept (s .call) (inputs (startOf c)) (c .loop .inv .0) (s .output .now) (s .scores .now) (c .loop .n) (c .loop .output) (c .loop .scores) (c .loop .work) (c .loop .masked) (done c)
+-- every head, where there are no present caches
+heads-done : (c : tie.Start) (y s work : List Float) (r : ℕ)
+    → ((y₀ s₀ : List Float) (m : ℕ) → HeadsTo (c .args .call) (inputs c) y₀ s₀ 0 (c .args .output .now) (c .args .scores .now) (c .args .work .now) m → HeadsTo (c .args .call) (inputs c) y₀ s₀ (c .args .call .batches * c .args .call .qheads) y s work (m + r))
+    → inCached (c .args .call .form) 1 ≡ 0
+    → HeadsDone (c .args .call) (inputs c) y (c .args .presentkey .now) (c .args .presentvalue .now) s work r
+heads-done c y s work r carried z =
+    let a = c .args in
+    let q = c .pre .1 .0 in
+    subst (HeadsDone (a .call) (inputs c) y (a .presentkey .now) (a .presentvalue .now) s work) (zero-add r)
+    (finished (a .call) (inputs c) (within c) (a .output .now) (a .scores .now) (a .call .batches * a .call .qheads) y (a .presentkey .now) (a .presentvalue .now) s work (0 + r)
+    (carried (a .output .now) (a .scores .now) 0 (begun (a .call) (inputs c) (within c) (a .output .now) (a .scores .now) (a .work .now) (q .0) (q .1) (q .2))) (omega arith) (no-keys c z) (no-values c z))
 
-div-head-rows : tie.Need-div-head-rows Inv-loop μ-loop
-div-head-rows c = omega (arith, c .before .loop .inv .0 .qheads-some)
+mul-all : tie.Need-mul-all
+mul-all c = let l = within (c .before .before .before .before .before .before .before .before .before .before .before .before .before) in omega (arith, mul-le-mul {n₂ = 8} {m₂ = 32} (l .batches-most) (l .qheads-most))
 
-rem-head-rows : tie.Need-rem-head-rows Inv-loop μ-loop
-rem-head-rows c = omega (arith, c .before .loop .inv .0 .qheads-some)
+enum-told : tie.Need-enum-told
+enum-told c = search needs
 
-head-rows-requires : tie.Need-head-rows-requires Inv-loop μ-loop
-head-rows-requires c κs =
-    let t = c .before .before .before in
-    let a = t .before in
-    let start = startOf a in
-    let s = start .args in
-    let l = a .loop .inv .0 in (
-      start .pre .0,
-      (
-        (div-lt-iff-lt-mul (l .qheads-some) .1 (t .loop-test .taken), mod-lt (a .loop .n) (l .qheads-some), l .qlen-some, omega arith),
-        (output-long a, scores-long a, done a .long),
-      ),
-    )
+heads-between-requires : tie.Need-heads-between-requires
+heads-between-requires c κs = let s = c .before .before .before .before .before .before .before .before .before .before .before .before .before .before .before .before .before .before in (s .pre .0, ((omega arith, omega arith), s .pre .1 .0))
 
--- how many rows are fully masked: no more than there are
-masked-most : (c : At) → c .loop .masked ≤ 256 * 2048
-masked-most c =
-    let s = startOf c .args in
-    let l = c .loop .inv .0 in
-    let p : s .call .batches * s .call .qheads ≤ 8 * 32 = mul-le-mul (l .batches-most) (l .qheads-most) in
-    let q : c .loop .n * s .call .qlen ≤ 256 * 2048 = mul-le-mul {n₂ = 256} {m₂ = 2048} (omega (arith, done c .high)) (l .qlen-most) in
-    omega (arith, done c .blind, count-le (c .loop .n * s .call .qlen) (maskedNumber (s .call) (inputs (startOf c))))
+enum-told-2 : tie.Need-enum-told-2
+enum-told-2 c = search needs
 
-add-masked : tie.Need-add-masked Inv-loop μ-loop
-add-masked c =
-    let h = c .before .before .before .before .before .before in
-    let a = h .before .before .before .before .before in
-    let s = startOf a .args in
-    omega (arith, masked-most a, h .head-rows .ensures .blind, count-le (s .call .qlen) (λ n. rowMasked (s .call) (inputs (startOf a)) (a .loop .n / s .call .qheads) (a .loop .n % s .call .qheads) (0 + n)), a .loop .inv .0 .qlen-most)
+cached-heads-requires : tie.Need-cached-heads-requires
+cached-heads-requires c κs =
+    let s = c .before .before .before .before .before .before .before .before .before .before .before .before .before .before .before .before .before .before .before .before in
+    let a = s .args in
+    let e : a .call .form ≡ Cached = c .before .before .before .before .before .enum-told2 .given .1 in
+    let p = s .pre .1 .1 in
+    (s .pre .0, (e, (s .pre .1 .0, (p .0 ∙ ap (λ (f : Form). inCached f (a .call .batches * a .call .kvheads * totalOf (a .call) * a .call .size)) e, p .1 ∙ ap (λ (f : Form). inCached f (a .call .batches * a .call .kvheads * totalOf (a .call) * a .call .vsize)) e))))
 
-add-n : tie.Need-add-n Inv-loop μ-loop
-add-n c =
-    let t = c .before .before .before .before .before .before .before .before .before .before in
-    let l = t .before .loop .inv .0 in
-    omega (arith, t .loop-test .taken, mul-le-mul (l .batches-most) (l .qheads-most))
+enum-told-3 : tie.Need-enum-told-3
+enum-told-3 c = search needs
 
-loop-less : tie.Need-loop-less Inv-loop μ-loop
-loop-less c = omega (arith, c .before .before .before .before .before .before .before .before .before .before .loop-test .taken)
+heads-between-requires-2 : tie.Need-heads-between-requires-2
+heads-between-requires-2 c κs = let s = c .before .before .before .before .before .before .before .before .before .before .before .before .before .before .before .before .before .before in (s .pre .0, ((omega arith, omega arith), s .pre .1 .0))
 
-loop-again : tie.Need-loop-again Inv-loop μ-loop
-loop-again c =
-    let h = c .before .before .before .before .before .before in
-    let t = h .before .before .before .before in
-    let a = t .before in
-    let start = startOf a in
-    let s = start .args in (
-      a .loop .inv .0,
-      head-more (s .call) (inputs start) (a .loop .inv .0) (s .output .now) (s .scores .now) (a .loop .n) (a .loop .output) (a .loop .scores) (a .loop .work)
-          (h .head-rows .last .1 .1 .1 .1 .1 .1 .1 .1 .1 .1 .1 .1 .1 .1 .0) (h .head-rows .last .1 .1 .1 .1 .1 .1 .1 .1 .1 .1 .1 .1 .1 .1 .1 .0) (h .head-rows .last .1 .1 .1 .1 .1 .1 .1 .1 .1 .1 .1 .1 .1 .1 .1 .1 .0) (a .loop .masked) (h .head-rows .result) (done a) (t .loop-test .taken) (h .head-rows .ensures),
-    )
+same-length : tie.Need-same-length
+same-length c = search needs
 
-same-length : tie.Need-same-length Inv-loop μ-loop
-same-length c = output-long (c .before) ∙ sym (startOf (c .before) .pre .1 .0)
+same-length-2 : tie.Need-same-length-2
+same-length-2 c = search needs
 
-same-length-2 : tie.Need-same-length-2 Inv-loop μ-loop
-same-length-2 c = scores-long (c .before) ∙ sym (startOf (c .before) .pre .1 .1)
+same-length-3 : tie.Need-same-length-3
+same-length-3 c = search needs
 
-same-length-3 : tie.Need-same-length-3 Inv-loop μ-loop
-same-length-3 c = done (c .before) .long ∙ sym (startOf (c .before) .pre .1 .2)
-
-returns : tie.Need-returns Inv-loop μ-loop
+returns : tie.Need-returns
 returns c =
-    let a = c .before in
-    let start = startOf a in
-    let s = start .args in
-    finished (s .call) (inputs start) (a .loop .inv .0) (s .output .now) (s .scores .now) (a .loop .n) (a .loop .output) (a .loop .scores) (a .loop .work) (a .loop .masked) (done a) (c .loop-test .left)
+    let h = c .before .before .before .before .before .before in
+    heads-done (c .before .before .before .before .before .before .before .before .before .before .before .before .before .before .before .before .before .before .before .before .before .before .before .before .before) (h .heads-between .last .1 .1 .1 .1 .1 .1 .1 .1 .1 .1 .1 .1 .0) (h .heads-between .last .1 .1 .1 .1 .1 .1 .1 .1 .1 .1 .1 .1 .1 .0) (h .heads-between .last .1 .1 .1 .1 .1 .1 .1 .1 .1 .1 .1 .1 .1 .1 .0) (h .heads-between .result) (h .heads-between .ensures) (ap (λ (f : Form). inCached f 1) (h .before .before .before .before .enum-told .given .1))
+
+same-length-4 : tie.Need-same-length-4
+same-length-4 c = search needs
+
+same-length-5 : tie.Need-same-length-5
+same-length-5 c = search needs
+
+same-length-6 : tie.Need-same-length-6
+same-length-6 c = search needs
+
+same-length-7 : tie.Need-same-length-7
+same-length-7 c = search needs
+
+same-length-8 : tie.Need-same-length-8
+same-length-8 c = search needs
+
+returns-2 : tie.Need-returns-2
+returns-2 c = search needs
+
+same-length-9 : tie.Need-same-length-9
+same-length-9 c = search needs
+
+same-length-10 : tie.Need-same-length-10
+same-length-10 c = search needs
+
+same-length-11 : tie.Need-same-length-11
+same-length-11 c = search needs
+
+returns-3 : tie.Need-returns-3
+returns-3 c =
+    let h = c .before .before .before .before .before .before in
+    heads-done (c .before .before .before .before .before .before .before .before .before .before .before .before .before .before .before .before .before .before .before .before .before .before .before .before .before) (h .heads-between2 .last .1 .1 .1 .1 .1 .1 .1 .1 .1 .1 .1 .1 .0) (h .heads-between2 .last .1 .1 .1 .1 .1 .1 .1 .1 .1 .1 .1 .1 .1 .0) (h .heads-between2 .last .1 .1 .1 .1 .1 .1 .1 .1 .1 .1 .1 .1 .1 .1 .0) (h .heads-between2 .result) (h .heads-between2 .ensures) (ap (λ (f : Form). inCached f 1) (h .before .before .before .before .enum-told3 .given .1))
 
 pub all-heads-spec : {M : Type 1} → statement M
 all-heads-spec =
     tie.close
     (tie.spec
-    Inv-loop
-    μ-loop
     mul-all
-    loop-holds
-    div-head-rows
-    rem-head-rows
-    head-rows-requires
-    add-masked
-    add-n
-    loop-less
-    loop-again
+    enum-told
+    heads-between-requires
+    enum-told-2
+    cached-heads-requires
+    enum-told-3
+    heads-between-requires-2
     same-length
     same-length-2
     same-length-3
-    returns)
+    returns
+    same-length-4
+    same-length-5
+    same-length-6
+    same-length-7
+    same-length-8
+    returns-2
+    same-length-9
+    same-length-10
+    same-length-11
+    returns-3)

@@ -1,4 +1,4 @@
--- `entry::attend` meets its contract: the present caches, the scale, and then every head. Assumes nothing.
+-- `entry::attend` meets its contract: the scale, and then every head. Assumes nothing.
 use native.Mathlib.Omega.{arith}
 use borrow.Author.Needs.{needs}
 use Rattle.call.specs.declared.Answer.the-variants.{Done}
@@ -6,7 +6,7 @@ use Rattle.call.specs.Limits.{totalOf}
 use Rattle.call.specs.Tensors.{Inputs, Outputs, inputsOf, outputsOf}
 use Rattle.call.proofs.Accepted.{Accepts, verdict→accepts}
 use Rattle.call.proofs.Facts.{InLimits, InputLengths, OutputLengths, limits→facts, fit→lengths, outputs→lengths}
-use Rattle.attention.specs.Outcomes.{presentKeyTensor, presentValueTensor, outcomeOf, acceptedOf}
+use Rattle.attention.specs.Outcomes.{outcomeOf, acceptedOf}
 use Rattle.entry.proofs.attend.Statement.{statement}
 use Rattle.entry.proofs.attend.Tie as tie
 
@@ -28,27 +28,18 @@ read-long c = fit→lengths (c .args .call) (inputs c) (accepts c .inputs)
 written-long : (c : tie.Start) → OutputLengths (c .args .call) (outputs c)
 written-long c = outputs→lengths (c .args .call) (outputs c) (accepts c .outputs)
 
-present-where-cached-requires : tie.Need-present-where-cached-requires
-present-where-cached-requires c κs =
-    let start = c .before .before .before .before .before .before .before .before .before .before .before .before .before in
-    ((accepts start .limits, limits start .size-some, limits start .size-most), (read-long start .pastKey, (read-long start .key, written-long start .presentKey)))
-
-present-where-cached-requires-2 : tie.Need-present-where-cached-requires-2
-present-where-cached-requires-2 c κs =
-    let start = c .before .before .before .before .before .before .before .before .before .before .before .before .before .before .before .before .before in
-    ((accepts start .limits, limits start .vsize-some, limits start .vsize-most), (read-long start .pastValue, (read-long start .value, written-long start .presentValue)))
-
 effective-scale-requires : tie.Need-effective-scale-requires
 effective-scale-requires c κs = search needs
 
 all-heads-requires : tie.Need-all-heads-requires
 all-heads-requires c κs =
-    let e = c .before .before .before in
-    let start = e .before .before .before .before .before .before .before .before .before .before .before .before .before .before .before .before .before .before .before .before .before in
-    (record { lent = outputs start; accepted = start .pre; scale-is = e .effective-scale .ensures }, (written-long start .output, written-long start .scores, written-long start .work))
+    let e = c .before .before .before .before .before in
+    let start = e .before .before .before .before .before .before .before .before .before .before .before .before .before in
+    let w = written-long start in
+    (record { lent = outputs start; accepted = start .pre; scale-is = e .effective-scale .ensures }, ((w .output, w .scores, w .work), (w .presentKey, w .presentValue)))
 
-add-t28 : tie.Need-add-t28
-add-t28 c = omega (arith, limits (c .before .before .before .before .before .before .before .before .before .before .before .before .before .before .before .before .before .before .before .before .before .before .before .before .before .before .before .before .before .before .before .before) .total-most)
+add-t27 : tie.Need-add-t27
+add-t27 c = omega (arith, limits (c .before .before .before .before .before .before .before .before .before .before .before .before .before .before .before .before .before .before .before .before .before .before .before .before .before .before .before .before .before .before) .total-most)
 
 same-length : tie.Need-same-length
 same-length c = search needs
@@ -66,24 +57,20 @@ same-length-5 : tie.Need-same-length-5
 same-length-5 c = search needs
 
 returns : tie.Need-returns
-unfolding acceptedOf presentKeyTensor presentValueTensor
+unfolding acceptedOf
 returns c =
-    let h = c .before .before .before .before .before .before .before in
-    let v = h .before .before .before .before .before .before .before in
-    let k = v .before .before .before .before in
-    let s = k .before .before .before .before .before .before .before .before .before .before .before .before .before .before .args in
+    let h = c .before .before .before .before .before .before .before .before .before .before .before in
+    let s = h .before .before .before .before .before .before .before .before .before .before .before .before .before .before .before .before .before .before .before .args in
     let d = h .all-heads .ensures in
-    λ i. outcomeOf (Done (totalOf (s .call)) (d .blind i)) (outputsOf (d .outputs i) (k .present-where-cached .ensures i) (v .present-where-cached2 .ensures i) (d .shown i) (d .weights i))
+    λ i. outcomeOf (Done (totalOf (s .call)) (d .blind i)) (outputsOf (d .outputs i) (d .keys i) (d .values i) (d .shown i) (d .weights i))
 
 pub attend-spec : {M : Type 1} → statement M
 attend-spec =
     tie.close
     (tie.spec
-    present-where-cached-requires
-    present-where-cached-requires-2
     effective-scale-requires
     all-heads-requires
-    add-t28
+    add-t27
     same-length
     same-length-2
     same-length-3
