@@ -56,10 +56,10 @@ few : (c : At) → let s = startOf c .args in s .call .batches * s .call .qheads
 few c = let l = c .loop .inv .0 in mul-le-mul (l .batches-most) (l .qheads-most)
 
 div-head-rows : tie.Need-div-head-rows Inv-loop μ-loop
-div-head-rows c = omega (arith, c .before .loop .inv .0 .qheads-some)
+div-head-rows c = let l = c .before .loop .inv .0 in omega arith
 
 rem-head-rows : tie.Need-rem-head-rows Inv-loop μ-loop
-rem-head-rows c = omega (arith, c .before .loop .inv .0 .qheads-some)
+rem-head-rows c = let l = c .before .loop .inv .0 in omega arith
 
 head-rows-requires : tie.Need-head-rows-requires Inv-loop μ-loop
 head-rows-requires c κs =
