@@ -1,7 +1,0 @@
-pub mod Tests
-pub mod Counts
-pub mod Faults
-pub mod Parts
-pub mod Groups
-pub mod Counted
-pub mod Written

@@ -1,36 +1,10 @@
 // The check that decides the nine refusals, one link after the other in their order. It reads what the caller lends and writes nothing.
-mod cells;
-mod elements;
-mod lengths;
-mod record;
-
 ghost use mathlib.Core.Path.{_≡_};
-ghost use Prim.Native.Nat.{_≤_, _<_};
-ghost use lib.ListN.{length};
 ghost use Rattle.call.specs.Tensors.{Outputs, inputsOf};
-ghost use Rattle.call.specs.Limits.{totalOf};
-ghost use Rattle.call.specs.Lengths.{liveLength};
-ghost use Rattle.call.specs.Contents.{liveOf};
 ghost use Rattle.call.specs.Refusals.{verdictOf};
-ghost use Rattle.refusals.specs.Lent.{WrittenLengths};
+ghost use Rattle.shapes.specs.Lent.{WrittenLengths};
 use call::Call;
-use call::Form;
 use call::Verdict;
-
-// L of batch b: its live count in the counted form, T in any other.
-pub fn live_count(call: Call, live: &[i64], b: usize) -> usize
-    requires { ⌜ totalOf call ≤ 2048 ⌝ }
-    requires { ⌜ length (now live) ≡ liveLength call ⌝ }
-    requires { ⌜ b < call .batches ⌝ }
-    ensures { λ r. ⌜ r ≡ liveOf call (now (live .entry)) b ⌝ }
-{
-    let form = call.form;
-    match form {
-        Form::Plain => call.past + call.klen,
-        Form::Cached => call.past + call.klen,
-        Form::Counted => cells::count_of(live[b]),
-    }
-}
 
 // The first of the nine refusals that applies to a call. Of the tensors lent for writing it takes the lengths alone, so a refused call cannot have written.
 pub fn verdict(
@@ -51,11 +25,11 @@ pub fn verdict(
 ) -> Verdict
     ensures { λ r. ⌜ ((y : Outputs) → WrittenLengths y output presentkey presentvalue scores work → r ≡ verdictOf call (inputsOf (now (query .entry)) (now (key .entry)) (now (value .entry)) (now (boolmask .entry)) (now (floatmask .entry)) (now (pastkey .entry)) (now (pastvalue .entry)) (now (live .entry))) y) ⌝ }
 {
-    let by_record = record::record_verdict(call);
+    let by_record = shapes::record::record_verdict(call);
     if let Verdict::Refused(answer) = by_record {
         return Verdict::Refused(answer);
     }
-    let by_lengths = lengths::lengths_verdict(
+    let by_lengths = shapes::lengths::lengths_verdict(
         call,
         query,
         key,
@@ -74,9 +48,9 @@ pub fn verdict(
     if let Verdict::Refused(answer) = by_lengths {
         return Verdict::Refused(answer);
     }
-    let by_cells = cells::cells_verdict(call, boolmask, floatmask, live);
+    let by_cells = contents::cells::cells_verdict(call, boolmask, floatmask, live);
     if let Verdict::Refused(answer) = by_cells {
         return Verdict::Refused(answer);
     }
-    elements::elements_verdict(call, query, key, value, pastkey, pastvalue, live)
+    contents::elements::elements_verdict(call, query, key, value, pastkey, pastvalue, live)
 }

@@ -276,7 +276,7 @@ fn attend_row<'a>(
     let mode = call.mode;
     let kind = call.mask;
     let g = key_head(call, h);
-    let count = refusals::live_count(call, live, b);
+    let count = contents::live_count(call, live, b);
     let n = row_steps::visible(call, count, i);
     let dots = row_steps::shows(mode, 0, 0);
     let m = scored(dots, count, n);

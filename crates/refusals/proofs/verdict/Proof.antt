@@ -4,7 +4,7 @@ use Rattle.call.specs.declared.Verdict.the-variants.{Accepted}
 use Rattle.call.specs.Refusals.{recordVerdict, verdictOf}
 use Rattle.call.proofs.Facts.{limits→facts, fit→lengths}
 use Rattle.call.proofs.Accepted.{record→held, lengths→held, cells→none}
-use Rattle.refusals.proofs.Written.{written, written-lengths}
+use Rattle.shapes.proofs.Written.{written, written-lengths}
 use borrow.Author.Needs.{needs}
 use Rattle.refusals.proofs.verdict.Statement.{statement}
 use Rattle.refusals.proofs.verdict.Tie as tie
