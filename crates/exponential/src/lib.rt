@@ -131,7 +131,7 @@ fn exponents(row: &mut [f32], largest: f32)
     }
 }
 
-// The same by rounding: 256 y + 2^23 is rounded to a whole number, which is 2^23 + n or 2^23 + n + 1.
+// The largest whole number n not above 256 y, by rounding: 256 y + 2^23 is rounded to a whole number, which is 2^23 + n or 2^23 + n + 1.
 fn whole_near(y: f32) -> u32
     requires { ⌜ T (inRange y) ⌝ }
     ensures { λ n. ⌜ n ≡ wholePartOf y ⌝ }
