@@ -32,24 +32,16 @@ int main(int argc, char **argv)
     float *y = tensor(nq), *ck = tensor(nc), *cv = tensor(nc), *w = tensor(T);
     float *y2 = tensor(nq), *ck2 = tensor(nc), *cv2 = tensor(nc), *w2 = tensor(T);
 
-    klaverdomp_call call = {0};
-    call.form = KLAVERDOMP_CACHED;
-    call.score_mode = KLAVERDOMP_NO_SCORES;
-    call.rank = 4;
-    call.causal = 1;
-    call.batches = B;
-    call.query_heads = Hq;
-    call.key_heads = Hkv;
-    call.query_length = S;
-    call.key_length = S;
-    call.past_length = P;
-    call.head_size = D;
-    call.value_size = D;
-    klaverdomp_tensors t = {0};
-    t.query = q, t.query_len = nq, t.key = k, t.key_len = nk, t.value = v, t.value_len = nk;
-    t.past_key = pk, t.past_key_len = np, t.past_value = pv, t.past_value_len = np;
-    t.output = y, t.output_len = nq, t.present_key = ck, t.present_key_len = nc, t.present_value = cv, t.present_value_len = nc;
-    t.work = w, t.work_len = T;
+    klaverdomp_call call = {
+        .form = KLAVERDOMP_CACHED, .score_mode = KLAVERDOMP_NO_SCORES, .rank = 4, .causal = 1,
+        .batches = B, .query_heads = Hq, .key_heads = Hkv, .query_length = S, .key_length = S, .past_length = P, .head_size = D, .value_size = D,
+    };
+    klaverdomp_tensors t = {
+        .query = q, .query_len = nq, .key = k, .key_len = nk, .value = v, .value_len = nk,
+        .past_key = pk, .past_key_len = np, .past_value = pv, .past_value_len = np,
+        .output = y, .output_len = nq, .present_key = ck, .present_key_len = nc, .present_value = cv, .present_value_len = nc,
+        .work = w, .work_len = T,
+    };
     klaverdomp_answer ours = klaverdomp_attention(&call, &t);
 
     struct reference_call rc = {FORM_CACHED, MASK_NONE, SCALE_ABSENT, SCORES_NONE, 4, 1, B, Hq, Hkv, S, S, P, D, D, {0}, 0.0f};
