@@ -1,204 +1,195 @@
--- `weighted_sum::weighted_rows` meets its contract. The loop's invariant: the weighted values are added in the columns before c, the others are as they were. Assumes nothing.
-use mathlib.Core.Path.{_≡_, refl, sym, ap, _∙_, subst}
-use mathlib.Core.List.{List, _++_, append-nil}
+-- `weighted_sum::weighted_rows` meets its contract. The loop's invariant: the weighted values of the positions before j are added in every column. Assumes nothing.
+use mathlib.Core.Path.{_≡_, sym, ap, _∙_}
+use mathlib.Core.List.{List}
 use Prim.Native.Nat.{ℕ, _+_, _*_, _-_, _^_, _≤_, _<_}
+use native.Mathlib.Nat.{add-mul}
 use native.Mathlib.Omega.{arith}
 use borrow.Author.Needs.{needs}
-use borrow.Rule.Slice.PartMut.{putMid}
 use lib.ListN.{length, take, drop}
-use lib.Seq.{drop-length}
+use lib.Seq.{getD-take, getD-drop}
 use lib.Ieee.{Float, nan}
 use Rattle.tensor_laws.specs.Layout.{tabulate}
-use Rattle.tensor_laws.proofs.Tabulate.{length-tabulate}
-use Rattle.tensor_laws.proofs.Parts.{withPart, length-part as length-middle}
-use Rattle.tensor_laws.proofs.Tails.{partOf, length-part, length-first}
-use Rattle.tensor_laws.proofs.Blocks.{writtenTo, block-more, getD-unwritten, rest-written}
-use Rattle.softmax.specs.Lists.{weightedRowsOf}
-use Rattle.weighted_sum.proofs.Columns.{columnAt, all-columns, columns-long, columns-from, no-positions}
+use Rattle.tensor_laws.proofs.Tabulate.{length-tabulate, tabulate-getD}
+use Rattle.tensor_laws.proofs.Parts.{length-part as length-middle}
+use Rattle.tensor_laws.proofs.Tails.{partOf, length-part, getD-part}
+use Rattle.softmax.specs.Lists.{accumulatedOf, weightedRowsOf}
+use Rattle.softmax.proofs.Rows.{columnOf}
+use Rattle.weighted_sum.proofs.Columns.{all-columns, columns-long}
+use Rattle.weighted_sum.proofs.Blocks.{rows-more}
 use Rattle.weighted_sum.proofs.weighted_rows.Statement.{statement}
 use Rattle.weighted_sum.proofs.weighted_rows.Tie as tie
 
 abbrev Inv-loop : tie.InvT-loop
-Inv-loop weights values stride out₀ n c₀ out c = (c ≤ length out₀) × (out ≡ writtenTo (columnAt weights values stride out₀) c out₀)
+Inv-loop weights values stride out₀ n j₀ out j = (j ≤ length weights) × (out ≡ tabulate (length out₀) (columnOf weights values stride out₀ j))
 
 abbrev μ-loop : tie.MeasureT-loop
-μ-loop weights values stride out₀ n c₀ out c = length out₀ - c
+μ-loop weights values stride out₀ n j₀ out j = length weights - j
 
 abbrev At : Type 0
 At = tie.At-loop Inv-loop μ-loop
 
 abbrev startOf : At → tie.Start Inv-loop μ-loop
-startOf c = c .before .before .before .before .before
+startOf c = c .before .before .before .before
 
--- column c of the output row
-abbrev columnIn : tie.Start Inv-loop μ-loop → ℕ → Float
-columnIn c = let s = c .args in columnAt (s .weights .now) (s .values .now) (s .stride) (s .out .now)
-
-returns : tie.Need-returns Inv-loop μ-loop
-returns c = let s = c .before .before .before .before .args in no-positions (s .weights .now) (s .values .now) (s .stride) (s .out .now) (omega (arith, c .if1 .taken))
+-- the output row after the first j positions
+abbrev rowTo : tie.Start Inv-loop μ-loop → ℕ → List Float
+rowTo c j = let s = c .args in tabulate (length (s .out .now)) (columnOf (s .weights .now) (s .values .now) (s .stride) (s .out .now) j)
 
 loop-holds : tie.Need-loop-holds Inv-loop μ-loop
-unfolding tabulate
-loop-holds c = (omega arith, refl)
+unfolding accumulatedOf
+loop-holds c = (omega arith, sym (tabulate-getD (c .before .before .before .args .out .now) nan))
 
 -- the output row keeps its length
 as-long : (c : At) → length (c .loop .out) ≡ length (startOf c .args .out .now)
-as-long c = ap length (c .loop .inv .1) ∙ length-first (c .loop .c) (startOf c .args .out .now) (tabulate (c .loop .c) (columnIn (startOf c))) (length-tabulate (c .loop .c) (columnIn (startOf c))) (c .loop .inv .0)
+as-long c = let s = startOf c .args in ap length (c .loop .inv .1) ∙ length-tabulate (length (s .out .now)) (columnOf (s .weights .now) (s .values .now) (s .stride) (s .out .now) (c .loop .j))
 
-room : (c : At) → length (c .loop .out) * 4 < 2 ^ 63
-room c = subst (λ (n : ℕ). n * 4 < 2 ^ 63) (sym (as-long c)) (startOf c .good .1 .1 .1 .0 .1)
+-- the row of a position from j on is inside the part of the values that starts with position j
+inside : (c : At) (i : ℕ) → c .loop .j + i < length (startOf c .args .weights .now) → let s = startOf c .args in c .loop .j * s .stride + (i * s .stride + length (s .out .now)) ≤ length (s .values .now)
+inside c i l = let s = startOf c .args in omega (arith, startOf c .pre (c .loop .j + i) l, add-mul (c .loop .j) i (s .stride))
 
--- there is a position, so the values are as long as the output row
-some : (c : At) → 0 < length (startOf c .args .weights .now)
-some c = omega (arith, c .before .if1 .left)
+-- position j starts inside the values
+start-inside : (c : At) → c .loop .j < length (startOf c .args .weights .now) → let s = startOf c .args in c .loop .j * s .stride ≤ length (s .values .now)
+start-inside c l = let s = startOf c .args in omega (arith, startOf c .pre (c .loop .j) l)
 
-wide : (c : At) → length (startOf c .args .out .now) ≤ length (startOf c .args .values .now)
-wide c = omega (arith, startOf c .pre 0 (some c))
+weights-room : (c : At) → length (startOf c .args .weights .now) * 4 < 2 ^ 63
+weights-room c = startOf c .good .0 .1
+
+values-room : (c : At) → length (startOf c .args .values .now) * 4 < 2 ^ 63
+values-room c = startOf c .good .1 .0 .1
 
 sub-loop : tie.Need-sub-loop Inv-loop μ-loop
 sub-loop c = omega arith
 
 add-e : tie.Need-add-e Inv-loop μ-loop
-add-e c = omega (arith, room (c .before), as-long (c .before))
+add-e c = omega (arith, weights-room (c .before))
 
-mul-sixteen-columns : tie.Need-mul-sixteen-columns Inv-loop μ-loop
-mul-sixteen-columns c = let a = c .before in omega (arith, room a, as-long a)
+mul-at : tie.Need-mul-at Inv-loop μ-loop
+mul-at c = let a = c .before in omega (arith, start-inside a (omega arith), values-room a)
 
-sub-sixteen-columns : tie.Need-sub-sixteen-columns Inv-loop μ-loop
-sub-sixteen-columns c = let a = c .before in omega (arith, wide a)
+mul-weighted-columns : tie.Need-mul-weighted-columns Inv-loop μ-loop
+mul-weighted-columns c = let a = c .before in omega (arith, weights-room a)
 
-part-sixteen-columns-start : tie.Need-part-sixteen-columns-start Inv-loop μ-loop
-part-sixteen-columns-start c = let a = c .before in omega (arith, wide a)
+sub-weighted-columns : tie.Need-sub-weighted-columns Inv-loop μ-loop
+sub-weighted-columns c = search needs
 
-part-sixteen-columns-end : tie.Need-part-sixteen-columns-end Inv-loop μ-loop
-part-sixteen-columns-end c = search needs
+part-weighted-columns-start : tie.Need-part-weighted-columns-start Inv-loop μ-loop
+part-weighted-columns-start c = search needs
 
-mul-sixteen-columns-2 : tie.Need-mul-sixteen-columns-2 Inv-loop μ-loop
-mul-sixteen-columns-2 c = let a = c .before .before in omega (arith, room a, as-long a)
+part-weighted-columns-end : tie.Need-part-weighted-columns-end Inv-loop μ-loop
+part-weighted-columns-end c = let a = c .before in omega (arith, c .loop-test .taken)
 
-sub-sixteen-columns-2 : tie.Need-sub-sixteen-columns-2 Inv-loop μ-loop
-sub-sixteen-columns-2 c = search needs
+mul-weighted-columns-2 : tie.Need-mul-weighted-columns-2 Inv-loop μ-loop
+mul-weighted-columns-2 c = let a = c .before .before in omega (arith, start-inside a (omega (arith, c .before .loop-test .taken)), values-room a)
 
-part-sixteen-columns-start-2 : tie.Need-part-sixteen-columns-start-2 Inv-loop μ-loop
-part-sixteen-columns-start-2 c = search needs
+sub-weighted-columns-2 : tie.Need-sub-weighted-columns-2 Inv-loop μ-loop
+sub-weighted-columns-2 c = let a = c .before .before in omega (arith, start-inside a (omega (arith, c .before .loop-test .taken)))
 
-part-sixteen-columns-end-2 : tie.Need-part-sixteen-columns-end-2 Inv-loop μ-loop
-part-sixteen-columns-end-2 c = let a = c .before .before in omega (arith, as-long a)
+part-weighted-columns-start-2 : tie.Need-part-weighted-columns-start-2 Inv-loop μ-loop
+part-weighted-columns-start-2 c = let a = c .before .before in start-inside a (omega (arith, c .before .loop-test .taken))
 
--- the part that is lent has sixteen elements
-part-sixteen : (c : tie.In-loop Inv-loop μ-loop) → let at = c .before .loop .c in length (take (at + 16 - at) (drop at (c .before .loop .out))) ≡ 16
-part-sixteen c =
+part-weighted-columns-end-2 : tie.Need-part-weighted-columns-end-2 Inv-loop μ-loop
+part-weighted-columns-end-2 c = search needs
+
+-- the part of the weights that is lent has 32 elements, those from position j on
+weights-long : (c : tie.In-loop Inv-loop μ-loop) → let a = c .before in let j = a .loop .j in length (take (j + 32 - j) (drop j (startOf a .args .weights .now))) ≡ 32
+weights-long c =
     let a = c .before in
-    let at = a .loop .c in
-    let e : at + 16 - at ≡ 16 = omega arith in
-    ap (λ (k : ℕ). length (take k (drop at (a .loop .out)))) e ∙ length-middle at 16 (a .loop .out) (omega (arith, as-long a))
+    let j = a .loop .j in
+    let w = startOf a .args .weights .now in
+    let e : j + 32 - j ≡ 32 = omega arith in
+    ap (λ (k : ℕ). length (take k (drop j w))) e ∙ length-middle j 32 w (omega (arith, c .loop-test .taken))
 
-sixteen-columns-requires : tie.Need-sixteen-columns-requires Inv-loop μ-loop
-sixteen-columns-requires c κs =
-    let t = c .before .before in
+weighted-columns-requires : tie.Need-weighted-columns-requires Inv-loop μ-loop
+weighted-columns-requires c κs i l =
+    let t = c .before .before .before in
     let a = t .before in
     let s = startOf a .args in
-    (part-sixteen t, λ j l. omega (arith, startOf a .pre j l, length-part (a .loop .c) (s .values .now)))
+    omega (arith, inside a i (omega (arith, weights-long t, t .loop-test .taken)), as-long a, length-part (a .loop .j * s .stride) (s .values .now))
 
 loop-less : tie.Need-loop-less Inv-loop μ-loop
-loop-less c = let t = c .before .before .before .before .before in omega (arith, t .loop-test .taken)
+loop-less c = omega (arith, c .before .before .before .before .before .before .loop-test .taken)
 
 loop-again : tie.Need-loop-again Inv-loop μ-loop
 loop-again c =
     let r = c .before .before in
-    let t = r .before .before .before in
+    let t = r .before .before .before .before in
     let a = t .before in
-    let start = startOf a in
-    let s = start .args in
-    let at = a .loop .c in
-    let l : at + 16 ≤ length (s .out .now) = omega (arith, t .loop-test .taken) in
-    let part = take (at + 16 - at) (drop at (a .loop .out)) in (
-      l,
-      (λ i. withPart at (at + 16 - at) (a .loop .inv .1 i) ((r .sixteen-columns .ensures ∙ columns-from (s .weights .now) (s .values .now) (s .stride) (s .out .now) at 16 part (part-sixteen t) (λ k h. getD-unwritten (columnIn start) (s .out .now) at (a .loop .out) (a .loop .inv .1) (at + 16 - at) k nan (omega arith))) i))
-          ∙ block-more (columnIn start) (s .out .now) at (at + 16 - at) 16 (omega arith) l,
+    let s = startOf a .args in
+    let j = a .loop .j in
+    let given = take (j + 32 - j) (drop j (s .weights .now)) in (
+      omega (arith, t .loop-test .taken),
+      r .weighted-columns .ensures
+          ∙ rows-more (s .weights .now) (s .values .now) (s .stride) (s .out .now) j 32 given (a .loop .out) (a .loop .inv .1) (weights-long t)
+          (λ i h. getD-take (j + 32 - j) (drop j (s .weights .now)) i nan (omega arith) ∙ getD-drop j (s .weights .now) i nan),
     )
 
--- ---- the columns that are left
+mul-at-2 : tie.Need-mul-at-2 Inv-loop μ-loop
+mul-at-2 c = let a = c .before .before in omega (arith, start-inside a (c .if1 .taken), values-room a)
 
-mul-weighted-rows : tie.Need-mul-weighted-rows Inv-loop μ-loop
-mul-weighted-rows c = let a = c .before .before in omega (arith, room a, as-long a)
+mul-weighted-columns-3 : tie.Need-mul-weighted-columns-3 Inv-loop μ-loop
+mul-weighted-columns-3 c = let a = c .before .before in omega (arith, weights-room a, c .if1 .taken)
 
-sub-weighted-rows : tie.Need-sub-weighted-rows Inv-loop μ-loop
-sub-weighted-rows c = let a = c .before .before in omega (arith, wide a, c .if2 .taken)
+sub-weighted-columns-3 : tie.Need-sub-weighted-columns-3 Inv-loop μ-loop
+sub-weighted-columns-3 c = let a = c .before .before in omega (arith, c .if1 .taken)
 
-part-weighted-rows-start : tie.Need-part-weighted-rows-start Inv-loop μ-loop
-part-weighted-rows-start c = let a = c .before .before in omega (arith, wide a, c .if2 .taken)
+part-weighted-columns-start-3 : tie.Need-part-weighted-columns-start-3 Inv-loop μ-loop
+part-weighted-columns-start-3 c = let a = c .before .before in omega (arith, c .if1 .taken)
 
-part-weighted-rows-end : tie.Need-part-weighted-rows-end Inv-loop μ-loop
-part-weighted-rows-end c = search needs
+part-weighted-columns-end-3 : tie.Need-part-weighted-columns-end-3 Inv-loop μ-loop
+part-weighted-columns-end-3 c = search needs
 
-mul-weighted-rows-2 : tie.Need-mul-weighted-rows-2 Inv-loop μ-loop
-mul-weighted-rows-2 c = let a = c .before .before .before in omega (arith, room a, as-long a)
+mul-weighted-columns-4 : tie.Need-mul-weighted-columns-4 Inv-loop μ-loop
+mul-weighted-columns-4 c = let a = c .before .before .before in omega (arith, start-inside a (c .before .if1 .taken), values-room a)
 
-sub-weighted-rows-2 : tie.Need-sub-weighted-rows-2 Inv-loop μ-loop
-sub-weighted-rows-2 c = let a = c .before .before .before in omega (arith, as-long a, c .before .if2 .taken)
+sub-weighted-columns-4 : tie.Need-sub-weighted-columns-4 Inv-loop μ-loop
+sub-weighted-columns-4 c = let a = c .before .before .before in omega (arith, start-inside a (c .before .if1 .taken))
 
-part-weighted-rows-start-2 : tie.Need-part-weighted-rows-start-2 Inv-loop μ-loop
-part-weighted-rows-start-2 c = let a = c .before .before .before in omega (arith, as-long a, c .before .if2 .taken)
+part-weighted-columns-start-4 : tie.Need-part-weighted-columns-start-4 Inv-loop μ-loop
+part-weighted-columns-start-4 c = let a = c .before .before .before in start-inside a (c .before .if1 .taken)
 
-part-weighted-rows-end-2 : tie.Need-part-weighted-rows-end-2 Inv-loop μ-loop
-part-weighted-rows-end-2 c = search needs
+part-weighted-columns-end-4 : tie.Need-part-weighted-columns-end-4 Inv-loop μ-loop
+part-weighted-columns-end-4 c = search needs
 
--- as many elements as columns are left
-rest-long : (c : At) → length (partOf (c .loop .c) (c .loop .out)) ≡ length (startOf c .args .out .now) - c .loop .c
-rest-long c = length-part (c .loop .c) (c .loop .out) ∙ ap (λ (n : ℕ). n - c .loop .c) (as-long c)
-
-weighted-rows-requires : tie.Need-weighted-rows-requires Inv-loop μ-loop
-weighted-rows-requires c κs j l =
-    let t = c .before .before in
-    let a = t .before .before in
+weighted-columns-requires-2 : tie.Need-weighted-columns-requires-2 Inv-loop μ-loop
+weighted-columns-requires-2 c κs i l =
+    let a = c .before .before .before .before .before in
     let s = startOf a .args in
-    omega (arith, startOf a .pre j l, rest-long a, length-part (a .loop .c) (s .values .now), t .if2 .taken)
+    omega (arith, inside a i (omega (arith, length-part (a .loop .j) (s .weights .now))), as-long a, length-part (a .loop .j * s .stride) (s .values .now))
 
--- all columns
-allOf : tie.Start Inv-loop μ-loop → List Float
-allOf c = let s = c .args in weightedRowsOf (s .weights .now) (s .values .now) (s .stride) (s .out .now)
-
--- the columns before c, and those from there on
-finished : (c : At) (rest : List Float) → let s = startOf c .args in rest ≡ weightedRowsOf (s .weights .now) (partOf (c .loop .c) (s .values .now)) (s .stride) (partOf (c .loop .c) (c .loop .out))
-    → putMid (c .loop .c) (length (c .loop .out) - c .loop .c) (c .loop .out) rest ≡ allOf (startOf c)
-unfolding allOf
-finished c rest e =
-    let start = startOf c in
-    let s = start .args in
-    let at = c .loop .c in
-    rest-written (columnIn start) (s .out .now) at (c .loop .out) rest (c .loop .inv .1) (c .loop .inv .0)
-    (e ∙ columns-from (s .weights .now) (s .values .now) (s .stride) (s .out .now) at (length (s .out .now) - at) (partOf at (c .loop .out)) (rest-long c) (λ k h. getD-unwritten (columnIn start) (s .out .now) at (c .loop .out) (c .loop .inv .1) (length (c .loop .out) - at) k nan (omega (arith, as-long c))))
+-- the positions before j, and those from there on
+finished : (c : At) (row : List Float) → let s = startOf c .args in row ≡ weightedRowsOf (partOf (c .loop .j) (s .weights .now)) (partOf (c .loop .j * s .stride) (s .values .now)) (s .stride) (c .loop .out)
+    → row ≡ weightedRowsOf (s .weights .now) (s .values .now) (s .stride) (s .out .now)
+finished c row e =
+    let s = startOf c .args in
+    let j = c .loop .j in
+    let n = length (s .weights .now) in
+    let all : j + (n - j) ≡ n = omega (arith, c .loop .inv .0) in
+    e
+    ∙ rows-more (s .weights .now) (s .values .now) (s .stride) (s .out .now) j (n - j) (partOf j (s .weights .now)) (c .loop .out) (c .loop .inv .1) (length-part j (s .weights .now)) (λ i h. getD-part j (s .weights .now) i nan)
+    ∙ ap (rowTo (startOf c)) all
     ∙ all-columns (s .weights .now) (s .values .now) (s .stride) (s .out .now)
 
 same-length : tie.Need-same-length Inv-loop μ-loop
-unfolding allOf
 same-length c =
     let f = c .before .before in
-    let a = f .before .before .before .before .before in
+    let a = f .before .before .before .before .before .before in
     let s = startOf a .args in
-    ap length (finished a (f .weighted-rows .last .1 .1 .1 .0) (f .weighted-rows .ensures)) ∙ columns-long (s .weights .now) (s .values .now) (s .stride) (s .out .now)
+    ap length (finished a (f .weighted-columns2 .last .1 .1 .1 .0) (f .weighted-columns2 .ensures)) ∙ columns-long (s .weights .now) (s .values .now) (s .stride) (s .out .now)
 
-returns-2 : tie.Need-returns-2 Inv-loop μ-loop
-unfolding allOf
-returns-2 c =
+returns : tie.Need-returns Inv-loop μ-loop
+returns c =
     let f = c .before .before in
-    finished (f .before .before .before .before .before) (f .weighted-rows .last .1 .1 .1 .0) (f .weighted-rows .ensures)
+    finished (f .before .before .before .before .before .before) (f .weighted-columns2 .last .1 .1 .1 .0) (f .weighted-columns2 .ensures)
 
 same-length-2 : tie.Need-same-length-2 Inv-loop μ-loop
 same-length-2 c = as-long (c .before .before)
 
-returns-3 : tie.Need-returns-3 Inv-loop μ-loop
-returns-3 c =
+returns-2 : tie.Need-returns-2 Inv-loop μ-loop
+returns-2 c =
     let a = c .before .before in
-    let start = startOf a in
-    let s = start .args in
-    let e : a .loop .c ≡ length (s .out .now) = omega (arith, a .loop .inv .0, c .if2 .left) in
-    a .loop .inv .1
-    ∙ (λ i. writtenTo (columnIn start) (e i) (s .out .now))
-    ∙ ap (λ (r : List Float). tabulate (length (s .out .now)) (columnIn start) ++ r) (drop-length (s .out .now))
-    ∙ append-nil (tabulate (length (s .out .now)) (columnIn start))
-    ∙ all-columns (s .weights .now) (s .values .now) (s .stride) (s .out .now)
+    let s = startOf a .args in
+    let all : a .loop .j ≡ length (s .weights .now) = omega (arith, a .loop .inv .0, c .if1 .left) in
+    a .loop .inv .1 ∙ ap (rowTo (startOf a)) all ∙ all-columns (s .weights .now) (s .values .now) (s .stride) (s .out .now)
 
 pub weighted-rows-spec : {M : Type 1} → statement M
 weighted-rows-spec =
@@ -206,31 +197,32 @@ weighted-rows-spec =
     (tie.spec
     Inv-loop
     μ-loop
-    returns
     loop-holds
     sub-loop
     add-e
-    mul-sixteen-columns
-    sub-sixteen-columns
-    part-sixteen-columns-start
-    part-sixteen-columns-end
-    mul-sixteen-columns-2
-    sub-sixteen-columns-2
-    part-sixteen-columns-start-2
-    part-sixteen-columns-end-2
-    sixteen-columns-requires
+    mul-at
+    mul-weighted-columns
+    sub-weighted-columns
+    part-weighted-columns-start
+    part-weighted-columns-end
+    mul-weighted-columns-2
+    sub-weighted-columns-2
+    part-weighted-columns-start-2
+    part-weighted-columns-end-2
+    weighted-columns-requires
     loop-less
     loop-again
-    mul-weighted-rows
-    sub-weighted-rows
-    part-weighted-rows-start
-    part-weighted-rows-end
-    mul-weighted-rows-2
-    sub-weighted-rows-2
-    part-weighted-rows-start-2
-    part-weighted-rows-end-2
-    weighted-rows-requires
+    mul-at-2
+    mul-weighted-columns-3
+    sub-weighted-columns-3
+    part-weighted-columns-start-3
+    part-weighted-columns-end-3
+    mul-weighted-columns-4
+    sub-weighted-columns-4
+    part-weighted-columns-start-4
+    part-weighted-columns-end-4
+    weighted-columns-requires-2
     same-length
-    returns-2
+    returns
     same-length-2
-    returns-3)
+    returns-2)
