@@ -1,7 +1,7 @@
 -- The heads of a call one after the other: the rows done, the fully masked rows counted and the scratch row, before the first head, after one more, and after all. Assumes nothing.
 use mathlib.Core.Path.{_≡_, refl, sym, ap, _∙_}
 use mathlib.Core.Bool.{Bool, true, false, _&&_, _||_}
-use mathlib.Core.List.{List, []}
+use mathlib.Core.List.{List}
 use Prim.Native.Nat.{ℕ, suc, _+_, _-_, _*_, _/_, _%_, _≤_, _<_, zero-le}
 use native.Mathlib.Nat.{div-add-mod', mod-lt, mul-zero, zero-mul, suc-mul, zero-add, mul-le-mul}
 use native.Mathlib.Numerals.{add-one}
@@ -10,7 +10,7 @@ use lib.Arith.{digits-div, digits-mod}
 use lib.ListN.{length}
 use lib.Ieee.{Float, nan}
 use borrow.Author.Tests.{lt-ltb, le-leb}
-use Rattle.tensor_laws.specs.Layout.{batchAt, headAt, positionAt, tabulate, tensorOf, writtenOf}
+use Rattle.tensor_laws.specs.Layout.{tabulate, tensorOf, writtenOf}
 use Rattle.tensor_laws.proofs.Slots.{batch-slot, head-slot, position-slot}
 use Rattle.tensor_laws.proofs.Tabulate.{length-tabulate, none-long}
 use Rattle.tensor_laws.proofs.Cells.{length-tensorOf}

@@ -4,7 +4,7 @@ use mathlib.Core.List.{List, _++_, append-assoc}
 use Prim.Native.Nat.{ℕ, _+_, _-_, _≤_, _<_}
 use native.Mathlib.Omega.{arith}
 use lib.ListN.{length, getD, take, drop}
-use lib.Seq.{take-at, drop-at, drop-drop, getD-take, getD-drop, getD-append-add}
+use lib.Seq.{take-at, drop-at, drop-drop, getD-take, getD-drop}
 use borrow.Rule.Slice.PartMut.{putMid}
 use Rattle.tensor_laws.specs.Layout.{tabulate}
 use Rattle.tensor_laws.proofs.Tabulate.{length-tabulate, tabulate-append}

@@ -1,7 +1,7 @@
 -- `entry::all_heads` meets its contract: the heads of a cached call with their present caches, and those of any other call, which has none. Assumes nothing.
 use mathlib.Core.Path.{_≡_, ap, _∙_, subst}
 use mathlib.Core.List.{List}
-use Prim.Native.Nat.{ℕ, _+_, _*_, _≤_}
+use Prim.Native.Nat.{ℕ, _+_, _*_}
 use native.Mathlib.Nat.{mul-le-mul, zero-add}
 use native.Mathlib.Omega.{arith}
 use borrow.Author.Needs.{needs}

@@ -1,23 +1,19 @@
 -- `entry::cached_heads` meets its contract. The loop's invariant: the present caches' rows of the key heads before number n are written, and the query heads that use them are done. Assumes nothing.
 use mathlib.Core.Path.{_≡_, sym, ap, _∙_, subst}
-use mathlib.Core.List.{List}
-use Prim.Native.Nat.{ℕ, _+_, _-_, _*_, _/_, _%_, _≤_, _<_}
+use Prim.Native.Nat.{ℕ, _+_, _-_, _*_, _/_, _≤_, _<_}
 use native.Mathlib.Nat.{mod-lt, div-lt-iff-lt-mul, mul-le-mul, zero-mul}
 use native.Mathlib.Omega.{arith}
-use borrow.Author.Needs.{needs}
 use lib.ListN.{length}
-use lib.Ieee.{Float}
 use Rattle.tensor_laws.specs.Layout.{tensorOf}
 use Rattle.call.specs.declared.Form.{Form}
 use Rattle.call.specs.Limits.{totalOf}
-use Rattle.call.specs.Lengths.{outputLength, scoresLength, inCached}
+use Rattle.call.specs.Lengths.{outputLength, scoresLength}
 use Rattle.call.specs.Tensors.{Inputs, inputsOf}
 use Rattle.call.proofs.Facts.{InLimits}
 use Rattle.attention.specs.Elements.{positionCell}
 use Rattle.attention.specs.Outcomes.{presentKeyTensor, presentValueTensor, whereCached}
 use Rattle.attention.proofs.Counting.{count-le}
 use Rattle.rows.proofs.Ready.{accepts, limits, lengths}
-use Rattle.caches.specs.Fits.{PresentFits}
 use Rattle.caches.proofs.Lengths.{past-length}
 use Rattle.entry.specs.Heads.{maskedNumber, HeadsTo}
 use Rattle.entry.proofs.Heads.{begun, finished, output-kept, scores-kept}

@@ -1,11 +1,9 @@
 -- `entry::heads_between` meets its contract. The loop's invariant: the heads before `from` are carried on to those before n. Assumes nothing.
-use mathlib.Core.Path.{_≡_, sym, ap, _∙_, subst}
-use mathlib.Core.List.{List}
+use mathlib.Core.Path.{_≡_, sym, _∙_, subst}
 use Prim.Native.Nat.{ℕ, _+_, _-_, _*_, _/_, _%_, _≤_, _<_}
 use native.Mathlib.Nat.{mod-lt, div-lt-iff-lt-mul, mul-le-mul, add-assoc, add-zero}
 use native.Mathlib.Omega.{arith}
 use lib.ListN.{length}
-use lib.Ieee.{Float}
 use Rattle.call.specs.Limits.{totalOf}
 use Rattle.call.specs.Lengths.{outputLength, scoresLength}
 use Rattle.call.specs.Tensors.{Inputs, inputsOf}

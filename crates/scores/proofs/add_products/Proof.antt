@@ -1,12 +1,12 @@
 -- `scores::add_products` meets its contract. The loop's invariant: each sum has the first i of its products added. Assumes nothing.
 use mathlib.Core.Path.{_≡_, refl, ap, _∙_}
-use Prim.Native.Nat.{ℕ, _+_, _-_, _≤_, _<_}
+use Prim.Native.Nat.{ℕ, _-_, _≤_}
 use native.Mathlib.Omega.{arith}
 use borrow.Author.Needs.{needs}
 use mathlib.Core.List.{List}
 use lib.Ieee.{Float}
 use Rattle.softmax.specs.Lists.{elementOf}
-use Rattle.scores.specs.Sums.{addedOf, Added}
+use Rattle.scores.specs.Sums.{addedOf}
 use Rattle.scores.proofs.Eight.{added-next}
 use Rattle.scores.proofs.add_products.Statement.{statement}
 use Rattle.scores.proofs.add_products.Tie as tie

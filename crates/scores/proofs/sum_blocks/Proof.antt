@@ -1,9 +1,7 @@
 -- `scores::sum_blocks` meets its contract. The loop's invariant: the sums are over the first m sixteens. Assumes nothing.
 use mathlib.Core.Path.{_≡_, subst}
-use Prim.Native.Nat.{ℕ, _+_, _*_, _-_, _≤_, _<_}
+use Prim.Native.Nat.{ℕ, _+_, _*_, _-_, _≤_}
 use native.Mathlib.Omega.{arith}
-use borrow.Author.Needs.{needs}
-use lib.ListN.{length}
 use lib.Ieee.{ofBits}
 use Rattle.exponential.specs.ExpNeg.{plusZero}
 use Rattle.scores.specs.Sums.{sumTo, SumsTo}

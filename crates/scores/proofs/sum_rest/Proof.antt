@@ -4,7 +4,7 @@ use Prim.Native.Nat.{ℕ, _+_, _*_, _-_, _^_, _≤_, _<_}
 use native.Mathlib.Omega.{arith}
 use lib.ListN.{length}
 use lib.Ieee.{Float}
-use Rattle.scores.specs.Sums.{sumTo, SumsTo}
+use Rattle.scores.specs.Sums.{sumTo}
 use Rattle.scores.proofs.Eight.{sum-next, sum-next-first}
 use Rattle.scores.proofs.sum_rest.Statement.{statement}
 use Rattle.scores.proofs.sum_rest.Tie as tie
