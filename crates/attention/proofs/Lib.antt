@@ -7,4 +7,6 @@ pub mod Facts
 pub mod Bounded
 pub mod Weights
 pub mod Lengths
+pub mod Entries
+pub mod StepExamples
 pub mod Counting

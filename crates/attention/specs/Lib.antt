@@ -2,5 +2,6 @@ pub mod Elements
 pub mod Admission
 pub mod Formula
 pub mod Outcomes
+pub mod Entries
 pub mod Calls
 pub mod Table

@@ -3,5 +3,7 @@ pub mod Clear
 pub mod Accepted
 pub mod Facts
 pub mod Edges
+pub mod ProfileEdges
 pub mod Lowest
+pub mod Entries
 pub mod MaskBounds

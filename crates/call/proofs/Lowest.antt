@@ -11,7 +11,7 @@ use lib.ListN.{length, getD, replicate}
 use lib.Ieee.{Float, nan}
 use Rattle.call.specs.declared.Call.{Call}
 use Rattle.call.specs.declared.Answer.{Answer}
-use Rattle.call.specs.declared.Answer.the-variants.{Done, Limits, HeadGroups, Settings, MaskShape, InputLength, OutputLength, LiveCount, MaskCell, Element}
+use Rattle.call.specs.declared.Answer.the-variants.{Done, Limits, HeadGroups, Settings, MaskShape, InputLength, OutputLength, LiveCount, MaskCell, Element, Profile}
 use Rattle.call.specs.declared.Verdict.{Verdict}
 use Rattle.call.specs.declared.Verdict.the-variants.{Accepted, Refused}
 use Rattle.call.specs.Answers.{reportOf}
@@ -20,44 +20,10 @@ use Rattle.call.specs.Limits.{totalOf, limitsHold, groupsHold, settingsH
 use Rattle.call.specs.Lengths.{inputsFit, outputsFit}
 use Rattle.call.specs.Contents.{Found, nothing, at, countFault, liveFault, byteFault, cellFault, byteMaskFault, floatMaskFault, elementFault, tensorFault, lookedAt, incomingFault}
 use Rattle.call.specs.Refusals.{unless, whereFound, _then_, verdictOf}
+use Rattle.call.specs.Applies.{isFound, numbers, applies}
 use Rattle.call.proofs.Search.{First, found→first}
 use Rattle.call.proofs.Clear.{TensorClear, TensorFirst, bytes→clear, tensor→clear, tensor→first, incoming→clear}
 use Rattle.call.proofs.Accepted.{verdict→accepts}
-
--- ---- which numbers apply
-
--- the search found something
-abbrev pub isFound : Found → Bool
-isFound nothing = false
-isFound (at i) = true
-
--- one of the five searches of 9 found something
-abbrev pub elementFound : Call → Inputs → Bool
-elementFound c x =
-    isFound (tensorFault (x .query))
-    || isFound (tensorFault (x .pastKey))
-    || isFound (incomingFault c (x .live) (c .size) (x .key))
-    || isFound (tensorFault (x .pastValue))
-    || isFound (incomingFault c (x .live) (c .vsize) (x .value))
-
--- which of the numbers from 0 on apply, each said by itself
-abbrev pub numbers : Call → Inputs → Outputs → List Bool
-numbers c x y =
-    false
-    ∷ not (limitsHold c)
-    ∷ not (groupsHold c)
-    ∷ not (settingsHold c)
-    ∷ not (maskShapeHolds c)
-    ∷ not (inputsFit c x)
-    ∷ not (outputsFit c y)
-    ∷ isFound (liveFault c (x .live))
-    ∷ (isFound (byteMaskFault (x .boolMask)) || isFound (floatMaskFault (x .floatMask)))
-    ∷ elementFound c x
-    ∷ []
-
--- the refusal with that number applies
-abbrev pub applies : ℕ → Call → Inputs → Outputs → Bool
-applies n c x y = getD (numbers c x y) n false
 
 -- ---- where the fault is
 
@@ -92,6 +58,7 @@ AtFirst c x (Element (suc (suc zero)) i) = TensorClear (x .query) × TensorClear
 AtFirst c x (Element (suc (suc (suc zero))) i) = TensorClear (x .query) × TensorClear (x .pastKey) × IncomingClear c x (c .size) (x .key) × TensorFirst (x .pastValue) i
 AtFirst c x (Element (suc (suc (suc (suc zero)))) i) = TensorClear (x .query) × TensorClear (x .pastKey) × IncomingClear c x (c .size) (x .key) × TensorClear (x .pastValue) × IncomingFirst c x (c .vsize) (x .value) i
 AtFirst c x (Element (suc (suc (suc (suc (suc t))))) i) = ⊥
+AtFirst c x Profile = Unit {0}
 
 -- ---- the nine, by what they test
 
@@ -145,6 +112,7 @@ FoundBy live bytes cells query pastKey key pastValue value (Element (suc (suc ze
 FoundBy live bytes cells query pastKey key pastValue value (Element (suc (suc (suc zero))) i) = (query ≡ nothing) × (pastKey ≡ nothing) × (key ≡ nothing) × (pastValue ≡ at i)
 FoundBy live bytes cells query pastKey key pastValue value (Element (suc (suc (suc (suc zero)))) i) = (query ≡ nothing) × (pastKey ≡ nothing) × (key ≡ nothing) × (pastValue ≡ nothing) × (value ≡ at i)
 FoundBy live bytes cells query pastKey key pastValue value (Element (suc (suc (suc (suc (suc t))))) i) = ⊥
+FoundBy live bytes cells query pastKey key pastValue value Profile = Unit {0}
 
 -- the number n passes, and no lower one does
 record Lowest (numbers : List Bool) (n : ℕ) : Type 0 where
@@ -236,6 +204,7 @@ module _ (c : Call) (x : Inputs) where
   found→place (Element (suc (suc (suc zero))) i) f = (tensor→clear (x .query) (f .0), tensor→clear (x .pastKey) (f .1), incoming→clear c (x .live) (c .size) (x .key) (f .2), tensor→first (x .pastValue) i (f .3))
   found→place (Element (suc (suc (suc (suc zero)))) i) f = (tensor→clear (x .query) (f .0), tensor→clear (x .pastKey) (f .1), incoming→clear c (x .live) (c .size) (x .key) (f .2), tensor→clear (x .pastValue) (f .3), incoming-first (c .vsize) (x .value) i (f .4))
   found→place (Element (suc (suc (suc (suc (suc t))))) i) f = f
+  found→place Profile f = tt
 
 -- the place in the answer of a refused call is the first one at fault
 pub first-place : (c : Call) (x : Inputs) (y : Outputs) (a : Answer) → verdictOf c x y ≡ Refused a → AtFirst c x a

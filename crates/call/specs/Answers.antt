@@ -2,7 +2,7 @@
 -- Definitions only.
 use Prim.Native.Nat.{ℕ}
 use Rattle.call.specs.declared.Answer.{Answer}
-use Rattle.call.specs.declared.Answer.the-variants.{Done, Limits, HeadGroups, Settings, MaskShape, InputLength, OutputLength, LiveCount, MaskCell, Element}
+use Rattle.call.specs.declared.Answer.the-variants.{Done, Limits, HeadGroups, Settings, MaskShape, InputLength, OutputLength, LiveCount, MaskCell, Element, Profile}
 
 pub record Report : Type 0 where
   pub number : ℕ
@@ -30,3 +30,4 @@ reportOf OutputLength = refusal 6
 reportOf (LiveCount i) = refusalAt 7 0 i
 reportOf (MaskCell i) = refusalAt 8 0 i
 reportOf (Element t i) = refusalAt 9 t i
+reportOf Profile = refusal 10

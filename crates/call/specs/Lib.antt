@@ -4,3 +4,5 @@ pub mod Limits
 pub mod Lengths
 pub mod Contents
 pub mod Refusals
+pub mod Profile
+pub mod Applies

@@ -55,7 +55,7 @@ pub struct Call {
     pub maskk: usize,
 }
 
-// What a call answers: done, or the first of the nine refusals that applies, with the place of the fault where one is searched for.
+// What a call answers: done, or the first of the ten refusals that applies, with the place of the fault where one is searched for. The last is given by the step entry alone, to a record that is not of its profile.
 pub enum Answer {
     Done { total: usize, masked: usize },
     Limits,
@@ -67,6 +67,7 @@ pub enum Answer {
     LiveCount { index: usize },
     MaskCell { index: usize },
     Element { tensor: usize, index: usize },
+    Profile,
 }
 
 // Whether a call is accepted, or refused with an answer.

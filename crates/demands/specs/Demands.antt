@@ -1,49 +1,60 @@
--- The three demands as statements about what a call answers and leaves: `answer` and `left` stand for the answer of a call c with the tensors x and y, and for its five tensors at exit. Definitions only.
+-- The three demands as statements about what a call answers and leaves at either entry: `answer` and `left` stand for the answer of a call c with the tensors x and y at the entry e, and for its tensors at exit. The step entry is lent no masks, live counts and scores; they are empty there. Definitions only.
 use mathlib.Core.Path.{_≡_}
 use mathlib.Core.Logic.{_≢_}
 use mathlib.Core.Bool.{true, false}
 use mathlib.Core.List.{List, [], _∷_}
-use Prim.Native.Nat.{ℕ, _<_}
+use Prim.Native.Nat.{ℕ}
+use lib.Ieee.{Float}
 use Rattle.call.specs.declared.Call.{Call}
 use Rattle.call.specs.declared.Answer.{Answer}
 use Rattle.call.specs.declared.Answer.the-variants.{Done}
 use Rattle.call.specs.Answers.{reportOf}
 use Rattle.call.specs.Limits.{totalOf}
+use Rattle.call.specs.Profile.{Entry, general, step}
 use Rattle.call.specs.Tensors.{Inputs, Outputs}
-use Rattle.call.proofs.Lowest.{applies, AtFirst}
+use Rattle.call.specs.Applies.{appliesAt, FirstAt}
+use Rattle.call.proofs.Lowest.{AtFirst}
 use Rattle.attention.specs.Outcomes.{Outcome, outputTensor, presentKeyTensor, presentValueTensor, scoresTensor, workRow, maskedRowsOf, attentionOf}
-use Rattle.sequence.specs.Chunks.{Chunk, State, chunkCall, chunkInputs, nextState}
+use Rattle.attention.specs.Entries.{stepInputs, stepOutputs, stepOf}
+use Rattle.sequence.specs.Chunks.{Chunk, State, lentOf, chunkCall, chunkInputs, nextState}
 
--- Demand 1: there is an answer. A refusal is the lowest that applies, names the first place at fault, and leaves every tensor as it came in; none is given where none applies.
-pub record Demand1 (c : Call) (x : Inputs) (y : Outputs) (answer : Answer) (left : Outputs) : Type 0 where
-  pub applying : reportOf answer .number ≢ 0 → applies (reportOf answer .number) c x y ≡ true
-  pub lowest : (k : ℕ) → k < reportOf answer .number → applies k c x y ≡ false
+-- Demand 1: there is an answer. A refusal is the first that applies, names the first place at fault, and leaves every tensor as it came in; none is given where none applies.
+pub record Demand1 (e : Entry) (c : Call) (x : Inputs) (y : Outputs) (answer : Answer) (left : Outputs) : Type 0 where
+  pub first : reportOf answer .number ≢ 0 → FirstAt e c x y (reportOf answer .number)
   pub place : reportOf answer .number ≢ 0 → AtFirst c x answer
   pub untouched : reportOf answer .number ≢ 0 → left ≡ y
-  pub given : (k : ℕ) → applies k c x y ≡ true → reportOf answer .number ≢ 0
+  pub given : (k : ℕ) → appliesAt e k c x y ≡ true → reportOf answer .number ≢ 0
 
 -- Demand 2: an accepted call answers done, T and the number of fully masked rows, and leaves in each tensor what the formula gives.
-pub record Demand2 (c : Call) (x : Inputs) (y : Outputs) (answer : Answer) (left : Outputs) : Type 0 where
-  pub done : ((k : ℕ) → applies k c x y ≡ false) → answer ≡ Done (totalOf c) (maskedRowsOf c x)
-  pub output : ((k : ℕ) → applies k c x y ≡ false) → left .output ≡ outputTensor c x
-  pub presentKey : ((k : ℕ) → applies k c x y ≡ false) → left .presentKey ≡ presentKeyTensor c x
-  pub presentValue : ((k : ℕ) → applies k c x y ≡ false) → left .presentValue ≡ presentValueTensor c x
-  pub scores : ((k : ℕ) → applies k c x y ≡ false) → left .scores ≡ scoresTensor c x
-  pub work : ((k : ℕ) → applies k c x y ≡ false) → left .work ≡ workRow c x
+pub record Demand2 (e : Entry) (c : Call) (x : Inputs) (y : Outputs) (answer : Answer) (left : Outputs) : Type 0 where
+  pub done : ((k : ℕ) → appliesAt e k c x y ≡ false) → answer ≡ Done (totalOf c) (maskedRowsOf c x)
+  pub output : ((k : ℕ) → appliesAt e k c x y ≡ false) → left .output ≡ outputTensor c x
+  pub presentKey : ((k : ℕ) → appliesAt e k c x y ≡ false) → left .presentKey ≡ presentKeyTensor c x
+  pub presentValue : ((k : ℕ) → appliesAt e k c x y ≡ false) → left .presentValue ≡ presentValueTensor c x
+  pub scores : ((k : ℕ) → appliesAt e k c x y ≡ false) → left .scores ≡ scoresTensor c x
+  pub work : ((k : ℕ) → appliesAt e k c x y ≡ false) → left .work ≡ workRow c x
 
--- ---- demand 3: a program by what it answers and leaves on every call
+-- ---- demand 3: the two entries by what they answer and leave on every call
 
-abbrev pub Program : Type 0
-Program = Call → Inputs → Outputs → Outcome
+pub record Programs : Type 0 where
+  pub attention : Call → Inputs → Outputs → Outcome
+  pub step : Call → (query key value pastKey pastValue output presentKey presentValue work : List Float) → Outcome
 
--- it meets the entry's contract
-abbrev pub Meets : Program → Type 0
-Meets run = (c : Call) (x : Inputs) (y : Outputs) → run c x y ≡ attentionOf c x y
+-- they meet the entries' contracts
+pub record Meets (run : Programs) : Type 0 where
+  pub attention : (c : Call) (x : Inputs) (y : Outputs) → run .attention c x y ≡ attentionOf c x y
+  pub step : (c : Call) (query key value pastKey pastValue output presentKey presentValue work : List Float)
+      → run .step c query key value pastKey pastValue output presentKey presentValue work ≡ stepOf c (stepInputs query key value pastKey pastValue) (stepOutputs output presentKey presentValue work)
 
--- a chunk through the program, and the state after a sequence of chunks through it
-abbrev pub chunkBy : Program → Call → State → Chunk → Outcome
-chunkBy run s st r = run (chunkCall s (st .past) r) (chunkInputs st r) (r .lent)
+-- a chunk through the program of its entry, and the state after a sequence of chunks
+abbrev pub chunkAt : Programs → Entry → Call → State → Chunk → Outcome
+chunkAt run general s st r = run .attention (chunkCall s (st .past) r) (chunkInputs st r) (lentOf r)
+chunkAt run step s st r =
+    run .step (chunkCall s (st .past) r) (r .query) (r .key) (r .value) (st .key) (st .value) (r .lent .output) (r .lent .presentKey) (r .lent .presentValue) (r .lent .work)
 
-unfoldable pub stateBy : Program → Call → State → List Chunk → State
+abbrev pub chunkBy : Programs → Call → State → Chunk → Outcome
+chunkBy run s st r = chunkAt run (r .entry) s st r
+
+unfoldable pub stateBy : Programs → Call → State → List Chunk → State
 stateBy run s st [] = st
 stateBy run s st (r ∷ rs) = stateBy run s (nextState (chunkBy run s st r .answer) st (chunkBy run s st r .tensors)) rs

@@ -77,6 +77,7 @@ fn numbers_of(answer: Answer) -> [usize; 5] {
         Answer::LiveCount { index } => [7, 0, index, 0, 0],
         Answer::MaskCell { index } => [8, 0, index, 0, 0],
         Answer::Element { tensor, index } => [9, tensor, index, 0, 0],
+        Answer::Profile => [10, 0, 0, 0, 0],
     }
 }
 

@@ -11,10 +11,12 @@ use Rattle.call.specs.declared.Form.the-variants.{Plain}
 use Rattle.call.specs.declared.MaskKind.the-variants.{NoMask}
 use Rattle.call.specs.declared.ScoreMode.the-variants.{NoScores, Mode}
 use Rattle.call.specs.Answers.{reportOf}
+use Rattle.call.specs.Profile.{general}
 use Rattle.call.specs.Tensors.{Outputs}
 use Rattle.attention.specs.Elements.{cellAt}
 use Rattle.attention.specs.Formula.{attentionOutput}
 use Rattle.attention.specs.Outcomes.{attentionOf}
+use Rattle.attention.specs.Entries.{stepOf}
 use Rattle.sequence.specs.Positions.{plainCall, plainInputs}
 use Rattle.sequence.specs.Chunks.{start, historyAfter, isDone}
 use Rattle.attention.specs.Calls.{small}
@@ -44,7 +46,7 @@ unfolding attentionOf firstNumber
 touches-nothing e = let n : _≡_ {A = ℕ} 5 0 = ap (λ (t : Outputs). firstNumber (t .output)) e in omega arith
 
 -- A program that does the first chunk and only claims the second, leaving the lent output as it came in: the row formula of the plain call over both positions has another output.
-pub first-chunk-only : cellAt (secondChunk .lent .output) 4 1 1 1 0 0 0 0 ≡ attentionOutput (plainCall callE (historyAfter callE start [] (firstChunk ∷ secondChunk ∷ []))) (plainInputs callE (historyAfter callE start [] (firstChunk ∷ secondChunk ∷ []))) 0 0 1 0 → ⊥
+pub first-chunk-only : cellAt (secondChunk general .lent .output) 4 1 1 1 0 0 0 0 ≡ attentionOutput (plainCall callE (historyAfter callE start [] (firstChunk general ∷ secondChunk general ∷ []))) (plainInputs callE (historyAfter callE start [] (firstChunk general ∷ secondChunk general ∷ []))) 0 0 1 0 → ⊥
 unfolding historyAfter attentionOutput plainInputs firstNumber
 first-chunk-only e = let n : _≡_ {A = ℕ} 0 9 = ap (λ (x : Float). firstNumber (x ∷ [])) e in omega arith
 
@@ -52,3 +54,12 @@ first-chunk-only e = let n : _≡_ {A = ℕ} 0 9 = ap (λ (x : Float). firstNumb
 pub invents-the-number : (n : ℕ) → attentionOf (small Plain NoMask NoScores 0 0 1 2) (inputsB []) lentB .answer ≡ Done 2 n → attentionOf callC (inputsB (0 ∷ 0 ∷ [])) lentB .answer ≡ Done 2 n → ⊥
 unfolding attentionOf
 invents-the-number n p q = let z : _≡_ {A = ℕ} 0 1 = ap (λ (a : Answer). reportOf a .masked) (p ∙ sym q) in omega arith
+
+-- A step entry that always refuses, and one that touches nothing: E through it is done, and writes its present keys.
+pub step-always-refuses : (a : Answer) → isDone a ≡ false → stepOf callE inputsE lentE .answer ≡ a → ⊥
+unfolding stepOf
+step-always-refuses a h e = true≢false (ap isDone e ∙ h)
+
+pub step-touches-nothing : stepOf callE inputsE lentE .tensors ≡ lentE → ⊥
+unfolding stepOf firstNumber
+step-touches-nothing e = let n : _≡_ {A = ℕ} 1 0 = ap (λ (t : Outputs). firstNumber (t .presentKey)) e in omega arith

@@ -2,10 +2,11 @@
 -- The numbers: form, mask kind, scale kind, score mode, rank, causal flag, B, Hq, Hkv, Sq, Sk, P, D, Dv, and the mask's four dimensions. Definitions only.
 use mathlib.Core.List.{List}
 use Prim.Native.Nat.{ℕ}
-use mathlib.Core.Bool.{Bool, true, false, _&&_, cond}
+use mathlib.Core.Bool.{Bool, _&&_, cond}
 use lib.Dec.{leb, eqb}
 use lib.ListN.{length, getD}
 use lib.Ieee.{Float}
+use Rattle.exponential.specs.ExpNeg.{plusZero}
 use Rattle.call.specs.declared.Call.{Call}
 use Rattle.call.specs.declared.Form.{Form}
 use Rattle.call.specs.declared.Form.the-variants.{Plain, Cached, Counted}
@@ -28,22 +29,22 @@ formOf code = cond (eqb code 0) Plain (cond (eqb code 2) Counted Cached)
 unfoldable pub maskKindOf : ℕ → MaskKind
 maskKindOf code = cond (eqb code 1) Boolean (cond (eqb code 2) FloatMask NoMask)
 
--- 0 absent, 1 given; a code that names no scale kind is read as absent
+-- 0 absent, 1 given; a code that names no scale kind is read as a given scale of 0, which is refused
 unfoldable pub scaleOf : ℕ → Float → Scale
-scaleOf code scale = cond (eqb code 1) (Given scale) Absent
+scaleOf code scale = cond (eqb code 0) Absent (cond (eqb code 1) (Given scale) (Given plusZero))
 
 -- 255 is no scores, and any other number is the mode of that number
 unfoldable pub modeOf : ℕ → ScoreMode
 modeOf code = cond (eqb code 255) NoScores (Mode code)
 
--- whether the three codes name a form, a mask kind and a scale kind
-unfoldable pub codesNamed : ℕ → ℕ → ℕ → Bool
-codesNamed form mask scale = leb form 2 && leb mask 2 && leb scale 1
+-- whether the two codes name a form and a mask kind
+unfoldable pub codesNamed : ℕ → ℕ → Bool
+codesNamed form mask = leb form 2 && leb mask 2
 
--- the rank that is given; 0, which is no rank, where a code names nothing
-unfoldable pub rankOf : ℕ → ℕ → ℕ → ℕ → ℕ
+-- the rank that is given; 0, which is no rank, where a code names no form or no mask kind
+unfoldable pub rankOf : ℕ → ℕ → ℕ → ℕ
 unfolding codesNamed
-rankOf form mask scale rank = cond (codesNamed form mask scale) rank 0
+rankOf form mask rank = cond (codesNamed form mask) rank 0
 
 unfoldable pub callOf : List ℕ → Float → Call
 unfolding numberOf formOf maskKindOf scaleOf modeOf rankOf
@@ -52,7 +53,7 @@ callOf numbers scale = let n = numberOf numbers in record {
   mask = maskKindOf (n 1);
   scale = scaleOf (n 2) scale;
   mode = modeOf (n 3);
-  rank = rankOf (n 0) (n 1) (n 2) (n 4);
+  rank = rankOf (n 0) (n 1) (n 4);
   causal = n 5;
   batches = n 6;
   qheads = n 7;

@@ -4,6 +4,7 @@ ghost use mathlib.Core.Path.{_≡_};
 ghost use Rattle.call.specs.Answers.{reportOf, refusal, refusalAt};
 ghost use Rattle.call.specs.Tensors.{inputsOf, outputsOf};
 ghost use Rattle.attention.specs.Outcomes.{attentionOf};
+ghost use Rattle.attention.specs.Entries.{stepInputs, stepOutputs, stepOf};
 ghost use Rattle.exponential.specs.ExpNeg.{expNegOf, expNegRowOf};
 ghost use Rattle.exponential.specs.Power.{powerEntryOf};
 ghost use Rattle.exponential.specs.Scale.{defaultScaleOf};
@@ -62,10 +63,13 @@ fn decode_mask(code: usize) -> MaskKind
 fn decode_scale(code: usize, scale: f32) -> Scale
     ensures { λ r. ⌜ r ≡ scaleOf code scale ⌝ }
 {
+    if code == 0 {
+        return Scale::Absent;
+    }
     if code == 1 {
         return Scale::Given(scale);
     }
-    Scale::Absent
+    Scale::Given(0.0)
 }
 
 fn decode_mode(code: usize) -> ScoreMode
@@ -77,17 +81,14 @@ fn decode_mode(code: usize) -> ScoreMode
     ScoreMode::Mode(code)
 }
 
-// The rank, which is 0 where a code names no form, mask kind or scale kind, so that the call is refused.
-fn decode_rank(form: usize, mask: usize, scale: usize, rank: usize) -> usize
-    ensures { λ r. ⌜ r ≡ rankOf form mask scale rank ⌝ }
+// The rank, which is 0 where a code names no form or no mask kind, so that the call is refused.
+fn decode_rank(form: usize, mask: usize, rank: usize) -> usize
+    ensures { λ r. ⌜ r ≡ rankOf form mask rank ⌝ }
 {
     if 2 < form {
         return 0;
     }
     if 2 < mask {
-        return 0;
-    }
-    if 1 < scale {
         return 0;
     }
     rank
@@ -106,7 +107,7 @@ fn decode(numbers: &[u64], scale: f32) -> Call
         mask: decode_mask(mask),
         scale: decode_scale(given, scale),
         mode: decode_mode(mode),
-        rank: decode_rank(form, mask, given, rank),
+        rank: decode_rank(form, mask, rank),
         causal: number(numbers, 5),
         batches: number(numbers, 6),
         qheads: number(numbers, 7),
@@ -184,6 +185,7 @@ fn report(answer: Answer) -> Numbers
         Answer::LiveCount { index } => refused_at(7, 0, index),
         Answer::MaskCell { index } => refused_at(8, 0, index),
         Answer::Element { tensor, index } => refused_at(9, tensor, index),
+        Answer::Profile => refused(10),
     }
 }
 
@@ -229,6 +231,48 @@ pub extern "C" fn klaverdomp_attention_1<'a>(
         presentkey,
         presentvalue,
         scores,
+        work,
+    );
+    let given = report(answer);
+    *tensor = given.tensor;
+    *index = given.index;
+    *total = given.total;
+    *masked = given.masked;
+    given.number
+}
+
+// A step: attention for the records of the step profile, which is lent no masks, live counts and scores. Any other record is refusal 10.
+#[no_mangle]
+pub extern "C" fn klaverdomp_step_1<'a>(
+    numbers: &[u64],
+    scale: f32,
+    query: &[f32],
+    key: &'a [f32],
+    value: &'a [f32],
+    pastkey: &'a [f32],
+    pastvalue: &'a [f32],
+    output: &mut [f32],
+    presentkey: &mut [f32],
+    presentvalue: &mut [f32],
+    work: &mut [f32],
+    tensor: &mut u64,
+    index: &mut u64,
+    total: &mut u64,
+    masked: &mut u64,
+) -> u32
+    ensures { λ r. ⌜ returned r (now (tensor .exit)) (now (index .exit)) (now (total .exit)) (now (masked .exit)) (stepOutputs (now (output .exit)) (now (presentkey .exit)) (now (presentvalue .exit)) (now (work .exit))) ≡ returnedOf (stepOf (callOf (now (numbers .entry)) scale) (stepInputs (now (query .entry)) (now (key .entry)) (now (value .entry)) (now (pastkey .entry)) (now (pastvalue .entry))) (stepOutputs (now (output .entry)) (now (presentkey .entry)) (now (presentvalue .entry)) (now (work .entry)))) ⌝ }
+{
+    let call = decode(numbers, scale);
+    let answer = step::step(
+        call,
+        query,
+        key,
+        value,
+        pastkey,
+        pastvalue,
+        output,
+        presentkey,
+        presentvalue,
         work,
     );
     let given = report(answer);

@@ -1,15 +1,16 @@
 -- The corollary on cuts: chunks with tensors of the right lengths are all accepted exactly when the one plain call over all their positions is. Assumes nothing.
 use mathlib.Core.Path.{_≡_, refl, sym, _∙_, subst}
 use mathlib.Core.List.{List, [], _∷_, _++_, append-assoc, append-nil}
-use mathlib.Core.Bool.{Bool, true, false}
+use mathlib.Core.Bool.{Bool, true, false, _&&_}
 use Prim.Native.Nat.{_+_, _≤_}
 use native.Mathlib.Omega.{arith}
 use lib.ListN.{length, length-append}
 use Rattle.call.specs.declared.Call.{Call}
+use Rattle.call.specs.Profile.{takes}
 use Rattle.call.specs.Lengths.{inputsFit, outputsFit}
 use Rattle.call.proofs.Facts.{groups-same, settings-same, fit→lengths, lengths→fit}
 use Rattle.sequence.specs.Positions.{Position, plainCall}
-use Rattle.sequence.specs.Chunks.{Chunk, start, lengthOf, chunkCall, chunkInputs, chunkOutcome, positionsOf, plainAccepted, entered, isDone}
+use Rattle.sequence.specs.Chunks.{Chunk, start, lengthOf, lentOf, chunkCall, chunkInputs, chunkOutcome, positionsOf, plainAccepted, entered, isDone}
 use Rattle.sequence.specs.Cuts.{cachesFor, fitsAfter, allFit, allPositions, allAccepted, CutHolds}
 use Rattle.sequence.proofs.Places.{stateOf, AllGood, good-before, length-joined}
 use Rattle.sequence.proofs.Plain.{split, both, PlainGood, plain→good, good→plain}
@@ -50,8 +51,11 @@ caches-fit s history r e =
 fits-entered : (s : Call) (history : List Position) (r : Chunk) → fitsAfter s (length history) r ≡ true → PlainGood s (history ++ positionsOf s r) → entered s (stateOf s history) history r ≡ true
 unfolding fitsAfter
 fits-entered s history r e p =
-    let f = split (inputsFit (chunkCall s (length history) r) (chunkInputs (cachesFor s (length history)) r)) (outputsFit (chunkCall s (length history) r) (r .lent)) e in
-    fits→entered s history r (caches-fit s history r (f .0)) (f .1) p
+    let t = takes (r .entry) (chunkCall s (length history) r) in
+    let i = inputsFit (chunkCall s (length history) r) (chunkInputs (cachesFor s (length history)) r) in
+    let f = split (t && i) (outputsFit (chunkCall s (length history) r) (lentOf r)) e in
+    let g = split t i (f .0) in
+    fits→entered s history r (g .0) (caches-fit s history r (g .1)) (f .1) p
 
 -- after a history, chunks that fit are all accepted where the plain call over the history and all their positions is
 plain→all : (s : Call) (history : List Position) (rs : List Chunk) → AllGood s history → allFit s (length history) rs ≡ true → PlainGood s (history ++ allPositions s rs) → allAccepted s (stateOf s history) rs ≡ true

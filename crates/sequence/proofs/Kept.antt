@@ -5,6 +5,7 @@ use mathlib.Core.Bool.{Bool, true, false}
 use Prim.Native.Nat.{ℕ, _*_, _≤_}
 use lib.ListN.{length}
 use native.Mathlib.Nat.{mul-zero, zero-mul, not-suc-le-zero}
+use Rattle.tensor_laws.proofs.Tabulate.{none-long}
 use Rattle.call.specs.declared.Call.{Call}
 use Rattle.attention.specs.Outcomes.{acceptedOf}
 use Rattle.sequence.specs.Positions.{Position, keyCache, valueCache}
@@ -12,7 +13,7 @@ use Rattle.sequence.specs.Chunks.{Chunk, State, start, chunkCall, chunkI
 use Rattle.sequence.proofs.Places.{stateOf, AllGood, length-joined}
 use Rattle.sequence.proofs.Plain.{PlainGood}
 use Rattle.sequence.proofs.Refusing.{state-stays}
-use Rattle.sequence.proofs.Step.{empty, key-cache-length, value-cache-length, entered→plain, entered-outcome, other-outcome}
+use Rattle.sequence.proofs.Step.{key-cache-length, value-cache-length, entered→plain, entered-outcome, other-outcome}
 use Rattle.sequence.proofs.Outputs.{chunk-answer, chunk-present-keys, chunk-present-values}
 
 pub record Kept (s : Call) (st : State) (history : List Position) : Type 0 where
@@ -79,8 +80,8 @@ pub kept-start : (s : Call) → Kept s start []
 kept-start s = record {
   state = λ i. record {
     past = 0;
-    key = sym (empty (keyCache s []) (key-cache-length s [] ∙ none (s .size))) i;
-    value = sym (empty (valueCache s []) (value-cache-length s [] ∙ none (s .vsize))) i;
+    key = sym (none-long (keyCache s []) (key-cache-length s [] ∙ none (s .size))) i;
+    value = sym (none-long (valueCache s []) (value-cache-length s [] ∙ none (s .vsize))) i;
   };
   good = λ i h. absurd (not-suc-le-zero h);
   plain = λ some. absurd (not-suc-le-zero some);

@@ -4,7 +4,7 @@ use mathlib.Core.Bool.{Bool, true, false, true≢false}
 use lib.Dec.{T, eqb, eqb→eq}
 use Rattle.call.specs.declared.Call.{Call}
 use Rattle.call.specs.declared.Answer.{Answer}
-use Rattle.call.specs.declared.Answer.the-variants.{Done, Limits, HeadGroups, Settings, MaskShape, InputLength, OutputLength, LiveCount, MaskCell, Element}
+use Rattle.call.specs.declared.Answer.the-variants.{Done, Limits, HeadGroups, Settings, MaskShape, InputLength, OutputLength, LiveCount, MaskCell, Element, Profile}
 use Rattle.call.specs.declared.Verdict.the-variants.{Refused}
 use Rattle.call.specs.Answers.{reportOf}
 use Rattle.call.specs.Tensors.{Inputs, Outputs}
@@ -32,3 +32,4 @@ state-stays OutputLength st y e = refl
 state-stays (LiveCount i) st y e = refl
 state-stays (MaskCell i) st y e = refl
 state-stays (Element t i) st y e = refl
+state-stays Profile st y e = refl

@@ -1,4 +1,4 @@
--- Chunks (runs) of a recording: causal cached calls without a mask, each on the caches that the last accepted one left; and the history (the book) of the positions that were entered. Definitions only.
+-- Chunks (runs) of a recording: causal cached calls without a mask, each through one of the two entries and on the caches that the last accepted one left; and the history (the book) of the positions that were entered. Definitions only.
 use mathlib.Core.List.{List, [], _∷_, _++_}
 use Prim.Native.Nat.{ℕ, suc}
 use mathlib.Core.Bool.{Bool, true, false, _&&_, cond}
@@ -13,15 +13,18 @@ use Rattle.call.specs.declared.Answer.{Answer}
 use Rattle.call.specs.Answers.{reportOf}
 use Rattle.call.specs.declared.Verdict.{Verdict}
 use Rattle.call.specs.declared.Verdict.the-variants.{Accepted, Refused}
-use Rattle.call.specs.Tensors.{Inputs, Outputs}
+use Rattle.call.specs.Profile.{Entry, general, step, takes}
+use Rattle.call.specs.Tensors.{Inputs, Outputs, outputsOf}
 use Rattle.call.specs.Lengths.{inputsFit, outputsFit}
 use Rattle.call.specs.Refusals.{verdictOf}
 use Rattle.attention.specs.Elements.{cellAt}
 use Rattle.attention.specs.Outcomes.{Outcome, attentionOf}
+use Rattle.attention.specs.Entries.{stepOf, outcomeAt}
 use Rattle.sequence.specs.Positions.{Position, causalCall, plainCall, plainInputs, rightOutputs}
 
--- A chunk of one position and `more`. Its tensors may have any lengths and bits; its past tensors are not its own.
+-- A chunk of one position and `more`, and the entry that it comes through. Its tensors may have any lengths and bits; its past tensors are not its own.
 pub record Chunk : Type 0 where
+  pub entry : Entry
   pub more : ℕ
   pub query : List Float
   pub key : List Float
@@ -30,6 +33,11 @@ pub record Chunk : Type 0 where
   pub floatMask : List Float
   pub live : List ℤ
   pub lent : Outputs
+
+-- a tensor that the general entry alone is lent: masks, live counts and scores
+abbrev pub lentTo : {A : Type 0} → Entry → List A → List A
+lentTo general t = t
+lentTo step t = []
 
 -- Sq and Sk
 abbrev pub lengthOf : Chunk → ℕ
@@ -54,16 +62,20 @@ chunkInputs st r = record {
   query = r .query;
   key = r .key;
   value = r .value;
-  boolMask = r .boolMask;
-  floatMask = r .floatMask;
+  boolMask = lentTo (r .entry) (r .boolMask);
+  floatMask = lentTo (r .entry) (r .floatMask);
   pastKey = st .key;
   pastValue = st .value;
-  live = r .live;
+  live = lentTo (r .entry) (r .live);
 }
 
+-- the tensors that it lends for writing
+abbrev pub lentOf : Chunk → Outputs
+lentOf r = outputsOf (r .lent .output) (r .lent .presentKey) (r .lent .presentValue) (lentTo (r .entry) (r .lent .scores)) (r .lent .work)
+
 unfoldable pub chunkOutcome : Call → State → Chunk → Outcome
-unfolding attentionOf
-chunkOutcome s st r = attentionOf (chunkCall s (st .past) r) (chunkInputs st r) (r .lent)
+unfolding attentionOf stepOf
+chunkOutcome s st r = outcomeAt (r .entry) (chunkCall s (st .past) r) (chunkInputs st r) (lentOf r)
 
 -- the call was accepted: the answer has the number 0
 abbrev pub isDone : Answer → Bool
@@ -100,12 +112,13 @@ unfoldable pub plainAccepted : Call → List Position → Bool
 unfolding verdictOf plainInputs rightOutputs
 plainAccepted s ps = isAccepted (verdictOf (plainCall s ps) (plainInputs s ps) (rightOutputs (plainCall s ps)))
 
--- A chunk is entered exactly when its tensors have the right lengths and the plain call over the history's positions and then its own is one to which no refusal applies.
+-- A chunk is entered exactly when its entry takes its record, its tensors have the right lengths and the plain call over the history's positions and then its own is one to which no refusal applies.
 unfoldable pub entered : Call → State → List Position → Chunk → Bool
 unfolding inputsFit outputsFit plainAccepted positionsOf
 entered s st history r =
-    inputsFit (chunkCall s (length history) r) (chunkInputs st r)
-    && outputsFit (chunkCall s (length history) r) (r .lent)
+    takes (r .entry) (chunkCall s (length history) r)
+    && inputsFit (chunkCall s (length history) r) (chunkInputs st r)
+    && outputsFit (chunkCall s (length history) r) (lentOf r)
     && plainAccepted s (history ++ positionsOf s r)
 
 abbrev pub joined : Bool → List Position → List Position → List Position

@@ -1,4 +1,4 @@
--- The corollary on cuts: however positions are cut into chunks with tensors of the right lengths, all are accepted exactly when the one plain call over all of them is. Definitions only.
+-- The corollary on cuts: however positions are cut into chunks with tensors of the right lengths, each through an entry that takes its record, all are accepted exactly when the one plain call over all of them is. Definitions only.
 use mathlib.Core.Path.{_≡_}
 use mathlib.Core.List.{List, [], _∷_, _++_}
 use Prim.Native.Nat.{ℕ, _+_, _*_}
@@ -6,9 +6,10 @@ use mathlib.Core.Bool.{Bool, true, _&&_}
 use lib.ListN.{replicate}
 use Rattle.exponential.specs.ExpNeg.{plusZero}
 use Rattle.call.specs.declared.Call.{Call}
+use Rattle.call.specs.Profile.{takes}
 use Rattle.call.specs.Lengths.{inputsFit, outputsFit}
 use Rattle.sequence.specs.Positions.{Position}
-use Rattle.sequence.specs.Chunks.{Chunk, State, start, lengthOf, chunkCall, chunkInputs, chunkOutcome, nextState, positionsOf, plainAccepted, isDone}
+use Rattle.sequence.specs.Chunks.{Chunk, State, start, lengthOf, lentOf, chunkCall, chunkInputs, chunkOutcome, nextState, positionsOf, plainAccepted, isDone}
 
 -- caches of the right lengths after `past` positions
 abbrev pub cachesFor : Call → ℕ → State
@@ -18,10 +19,10 @@ cachesFor s past = record {
   value = replicate (s .batches * s .kvheads * past * s .vsize) plusZero;
 }
 
--- the chunk's own tensors have the right lengths where it comes after `past` positions
+-- the chunk's entry takes its record, and its own tensors have the right lengths, where it comes after `past` positions
 unfoldable pub fitsAfter : Call → ℕ → Chunk → Bool
 unfolding inputsFit outputsFit
-fitsAfter s past r = inputsFit (chunkCall s past r) (chunkInputs (cachesFor s past) r) && outputsFit (chunkCall s past r) (r .lent)
+fitsAfter s past r = takes (r .entry) (chunkCall s past r) && inputsFit (chunkCall s past r) (chunkInputs (cachesFor s past) r) && outputsFit (chunkCall s past r) (lentOf r)
 
 unfoldable pub allFit : Call → ℕ → List Chunk → Bool
 unfolding fitsAfter

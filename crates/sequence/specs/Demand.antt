@@ -9,7 +9,7 @@ use Rattle.call.specs.declared.Answer.the-variants.{Done}
 use Rattle.attention.specs.Elements.{cellAt}
 use Rattle.attention.specs.Formula.{attentionOutput}
 use Rattle.sequence.specs.Positions.{Position, plainCall, plainInputs, keyCache, valueCache}
-use Rattle.sequence.specs.Chunks.{Chunk, State, start, lengthOf, chunkOutcome, isDone, stateAfter, plainAccepted, entered, historyNext, historyAfter}
+use Rattle.sequence.specs.Chunks.{Chunk, State, start, lengthOf, lentOf, chunkOutcome, isDone, stateAfter, plainAccepted, entered, historyNext, historyAfter}
 
 -- What holds of one chunk of a sequence, with the state and the history before it, and the whole history after the sequence.
 pub record ChunkHolds (s : Call) (st : State) (history : List Position) (r : Chunk) (whole : List Position) : Type 0 where
@@ -18,7 +18,7 @@ pub record ChunkHolds (s : Call) (st : State) (history : List Position) (r : Chu
   -- it then answered done, the history's length after it as T, and 0 fully masked rows
   pub answer : entered s st history r ≡ true → chunkOutcome s st r .answer ≡ Done (length (historyNext s st history r)) 0
   -- any other chunk left every lent tensor as before
-  pub refused : entered s st history r ≡ false → chunkOutcome s st r .tensors ≡ r .lent
+  pub refused : entered s st history r ≡ false → chunkOutcome s st r .tensors ≡ lentOf r
   -- output row (b, h, i) of an accepted chunk has the bits of row (b, h, P + i) of the plain call over the whole history, by step 5
   pub output : entered s st history r ≡ true → (b h i k : ℕ) → b < s .batches → h < s .qheads → i < lengthOf r → k < s .vsize
       → cellAt (chunkOutcome s st r .tensors .output) (s .rank) (s .qheads) (lengthOf r) (s .vsize) b h i k

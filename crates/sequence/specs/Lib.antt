@@ -2,3 +2,4 @@ pub mod Positions
 pub mod Chunks
 pub mod Demand
 pub mod Cuts
+pub mod General

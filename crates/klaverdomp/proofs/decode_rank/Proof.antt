@@ -15,11 +15,7 @@ returns-2 c = let s = c .before .before .args in rw (le-leb (s .form) 2 (omega a
 
 returns-3 : tie.Need-returns-3
 unfolding codesNamed rankOf
-returns-3 c = let s = c .before .before .before .args in rw (le-leb (s .form) 2 (omega arith), le-leb (s .mask) 2 (omega arith), lt-leb (s .scale) 1 (omega arith))
-
-returns-4 : tie.Need-returns-4
-unfolding codesNamed rankOf
-returns-4 c = let s = c .before .before .before .args in rw (le-leb (s .form) 2 (omega arith), le-leb (s .mask) 2 (omega arith), le-leb (s .scale) 1 (omega arith))
+returns-3 c = let s = c .before .before .args in rw (le-leb (s .form) 2 (omega arith), le-leb (s .mask) 2 (omega arith))
 
 pub decode-rank-spec : {M : Type 1} → statement M
-decode-rank-spec = tie.close (tie.spec returns returns-2 returns-3 returns-4)
+decode-rank-spec = tie.close (tie.spec returns returns-2 returns-3)

@@ -1,18 +1,8 @@
 -- `klaverdomp::klaverdomp_attention_1` meets its contract: the decoded call, the outcome of the entry, and the report of its answer. Assumes nothing.
-use mathlib.Core.Path.{_≡_, ap, _∙_}
-use Rattle.call.specs.declared.Answer.{Answer}
-use Rattle.call.specs.Answers.{Report, reportOf}
-use Rattle.call.specs.Tensors.{Outputs}
-use Rattle.attention.specs.Outcomes.{Outcome, outcomeOf}
-use Rattle.klaverdomp.specs.declared.Numbers.{Numbers}
-use Rattle.klaverdomp.specs.Returned.{reportIn, returned, returnedOf}
 use borrow.Author.Needs.{needs}
+use Rattle.klaverdomp.proofs.Reported.{returned-is}
 use Rattle.klaverdomp.proofs.klaverdomp_attention_1.Statement.{statement}
 use Rattle.klaverdomp.proofs.klaverdomp_attention_1.Tie as tie
-
--- the report of the answer and the tensors of an outcome are what is returned
-returned-is : (n : Numbers) (a : Answer) (t : Outputs) (o : Outcome) → reportIn n ≡ reportOf a → outcomeOf a t ≡ o → returned (n .number) (n .tensor) (n .index) (n .total) (n .masked) t ≡ returnedOf o
-returned-is n a t o p q = ap (λ (r : Report). record { report = r; tensors = t }) p ∙ ap returnedOf q
 
 decode-requires : tie.Need-decode-requires
 decode-requires c κs = search needs

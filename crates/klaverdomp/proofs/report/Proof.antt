@@ -1,4 +1,4 @@
--- `klaverdomp::report` meets its contract: each of the ten answers is reported as the definition says. Assumes nothing.
+-- `klaverdomp::report` meets its contract: each of the eleven answers is reported as the definition says. Assumes nothing.
 use borrow.Author.Needs.{needs}
 use Rattle.klaverdomp.proofs.report.Statement.{statement}
 use Rattle.klaverdomp.proofs.report.Tie as tie
@@ -63,6 +63,12 @@ enum-known-answer-4 c = search needs
 refused-at-requires-3 : tie.Need-refused-at-requires-3
 refused-at-requires-3 c κs = search needs
 
+enum-told-7 : tie.Need-enum-told-7
+enum-told-7 c = search needs
+
+refused-requires-7 : tie.Need-refused-requires-7
+refused-requires-7 c κs = search needs
+
 returns : tie.Need-returns
 returns c = rw (c .before .before .answer .given .1) (c .done .ensures)
 
@@ -93,6 +99,9 @@ returns-9 c = rw (c .before .before .answer3 .given .1) (c .refused-at2 .ensures
 returns-10 : tie.Need-returns-10
 returns-10 c = rw (c .before .before .answer4 .given .1) (c .refused-at3 .ensures)
 
+returns-11 : tie.Need-returns-11
+returns-11 c = rw (c .before .enum-told7 .given .1) (c .refused7 .ensures)
+
 pub report-spec : {M : Type 1} → statement M
 report-spec =
     tie.close
@@ -117,6 +126,8 @@ report-spec =
     refused-at-requires-2
     enum-known-answer-4
     refused-at-requires-3
+    enum-told-7
+    refused-requires-7
     returns
     returns-2
     returns-3
@@ -126,4 +137,5 @@ report-spec =
     returns-7
     returns-8
     returns-9
-    returns-10)
+    returns-10
+    returns-11)
