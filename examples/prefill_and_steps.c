@@ -7,13 +7,13 @@
 
 #include "klaverdomp.h"
 
-enum { BATCHES = 2, QUERY_HEADS = 4, KEY_HEADS = 2, SIZE = 8, VALUE_SIZE = 6, POSITIONS = 12, PREFILL = 7 };
+enum { QUERY_HEADS = 4, KEY_HEADS = 2, SIZE = 8, VALUE_SIZE = 6, POSITIONS = 12, PREFILL = 7 };
 
 enum {
-    QUERY_LEN = BATCHES * QUERY_HEADS * POSITIONS * SIZE,
-    KEY_LEN = BATCHES * KEY_HEADS * POSITIONS * SIZE,
-    VALUE_LEN = BATCHES * KEY_HEADS * POSITIONS * VALUE_SIZE,
-    OUTPUT_LEN = BATCHES * QUERY_HEADS * POSITIONS * VALUE_SIZE
+    QUERY_LEN = QUERY_HEADS * POSITIONS * SIZE,
+    KEY_LEN = KEY_HEADS * POSITIONS * SIZE,
+    VALUE_LEN = KEY_HEADS * POSITIONS * VALUE_SIZE,
+    OUTPUT_LEN = QUERY_HEADS * POSITIONS * VALUE_SIZE
 };
 
 /* All positions of a recording, and the outputs of the plain call over them. */
@@ -22,7 +22,7 @@ static float query[QUERY_LEN], key[KEY_LEN], value[VALUE_LEN], expected[OUTPUT_L
 /* The caches: a step reads one pair and writes the other. */
 static float key_cache[2][KEY_LEN], value_cache[2][VALUE_LEN];
 
-/* What a step is lent besides. */
+/* What a prefill or a step is lent besides. */
 static float some_query[QUERY_LEN], some_key[KEY_LEN], some_value[VALUE_LEN], some_output[OUTPUT_LEN], work[POSITIONS];
 
 /* Numbers from -2 to below 2. */
@@ -34,12 +34,12 @@ static void fill(float *row, size_t len, uint32_t seed)
     }
 }
 
-/* Copies `count` positions from `first` on, of each batch and head. Returns how many elements that are. */
+/* Copies `count` positions from `first` on, of each head. Returns how many elements that are. */
 static size_t cut(float *to, const float *from, size_t heads, size_t size, size_t first, size_t count)
 {
-    for (size_t n = 0; n < BATCHES * heads; n++)
+    for (size_t n = 0; n < heads; n++)
         memcpy(to + n * count * size, from + (n * POSITIONS + first) * size, count * size * sizeof(float));
-    return BATCHES * heads * count * size;
+    return heads * count * size;
 }
 
 /* Whether the outputs of `count` positions from `first` on have the bits of the plain call's. */
@@ -60,7 +60,7 @@ static klaverdomp_call causal_call(uint64_t form, uint64_t past, uint64_t count)
     call.score_mode = KLAVERDOMP_NO_SCORES;
     call.rank = 4;
     call.causal = 1;
-    call.batches = BATCHES;
+    call.batches = 1;
     call.query_heads = QUERY_HEADS;
     call.key_heads = KEY_HEADS;
     call.query_length = count;
@@ -90,32 +90,54 @@ static klaverdomp_answer plain(void)
     return klaverdomp_attention(&call, &t);
 }
 
-/* A cached call on the positions that some_query, some_key and some_value hold, after `past` of them; it reads the caches of `from`. */
-static klaverdomp_answer step(size_t past, size_t count, int from)
+/* A cached call without a past on the `count` positions that some_query, some_key and some_value hold; it writes the caches of `to`. */
+static klaverdomp_answer prefill(size_t count, int to)
 {
-    klaverdomp_call call = causal_call(KLAVERDOMP_CACHED, past, count);
-    size_t total = past + count;
+    klaverdomp_call call = causal_call(KLAVERDOMP_CACHED, 0, count);
     klaverdomp_tensors t;
     memset(&t, 0, sizeof t);
     t.query = some_query;
-    t.query_len = BATCHES * QUERY_HEADS * count * SIZE;
+    t.query_len = QUERY_HEADS * count * SIZE;
     t.key = some_key;
-    t.key_len = BATCHES * KEY_HEADS * count * SIZE;
+    t.key_len = KEY_HEADS * count * SIZE;
     t.value = some_value;
-    t.value_len = BATCHES * KEY_HEADS * count * VALUE_SIZE;
-    t.past_key = key_cache[from];
-    t.past_key_len = BATCHES * KEY_HEADS * past * SIZE;
-    t.past_value = value_cache[from];
-    t.past_value_len = BATCHES * KEY_HEADS * past * VALUE_SIZE;
+    t.value_len = KEY_HEADS * count * VALUE_SIZE;
     t.output = some_output;
-    t.output_len = BATCHES * QUERY_HEADS * count * VALUE_SIZE;
+    t.output_len = QUERY_HEADS * count * VALUE_SIZE;
+    t.present_key = key_cache[to];
+    t.present_key_len = KEY_HEADS * count * SIZE;
+    t.present_value = value_cache[to];
+    t.present_value_len = KEY_HEADS * count * VALUE_SIZE;
+    t.work = work;
+    t.work_len = count;
+    return klaverdomp_attention(&call, &t);
+}
+
+/* A step on the position that some_query, some_key and some_value hold, after `past` of them; it reads the caches of `from`. */
+static klaverdomp_answer step(size_t past, int from)
+{
+    klaverdomp_call call = causal_call(KLAVERDOMP_CACHED, past, 1);
+    size_t total = past + 1;
+    klaverdomp_step_tensors t;
+    t.query = some_query;
+    t.query_len = QUERY_HEADS * SIZE;
+    t.key = some_key;
+    t.key_len = KEY_HEADS * SIZE;
+    t.value = some_value;
+    t.value_len = KEY_HEADS * VALUE_SIZE;
+    t.past_key = key_cache[from];
+    t.past_key_len = KEY_HEADS * past * SIZE;
+    t.past_value = value_cache[from];
+    t.past_value_len = KEY_HEADS * past * VALUE_SIZE;
+    t.output = some_output;
+    t.output_len = QUERY_HEADS * VALUE_SIZE;
     t.present_key = key_cache[!from];
-    t.present_key_len = BATCHES * KEY_HEADS * total * SIZE;
+    t.present_key_len = KEY_HEADS * total * SIZE;
     t.present_value = value_cache[!from];
-    t.present_value_len = BATCHES * KEY_HEADS * total * VALUE_SIZE;
+    t.present_value_len = KEY_HEADS * total * VALUE_SIZE;
     t.work = work;
     t.work_len = total;
-    return klaverdomp_attention(&call, &t);
+    return klaverdomp_step(&call, &t);
 }
 
 /* Takes `count` positions from `past` on. */
@@ -136,7 +158,7 @@ static int refused_step(size_t past, int from)
     memcpy(output_before, some_output, sizeof some_output);
     memcpy(key_before, key_cache[!from], sizeof key_before);
     memcpy(value_before, value_cache[!from], sizeof value_before);
-    a = step(past, 1, from);
+    a = step(past, from);
     printf("a NaN key:  refusal %u, tensor %u, index %u: %s\n", (unsigned)a.refusal, (unsigned)a.tensor, (unsigned)a.index,
            klaverdomp_refusal_text(a.refusal));
     return a.refusal == KLAVERDOMP_ELEMENT && a.tensor == KLAVERDOMP_KEY && a.index == SIZE + 3 && a.total == 0 && a.masked_rows == 0 &&
@@ -165,7 +187,7 @@ int main(void)
         if (past == POSITIONS - 1)
             good = refused_step(past, from) && good;
         take(past, count);
-        a = step(past, count, from);
+        a = past == 0 ? prefill(count, !from) : step(past, from);
         same = as_expected(some_output, past, count);
         printf("%-11s %s, %2u positions, outputs %s\n", past == 0 ? "prefill:" : "step:", klaverdomp_refusal_text(a.refusal),
                (unsigned)a.total, same ? "as in the plain call" : "DIFFER from the plain call");

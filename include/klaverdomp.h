@@ -1,6 +1,6 @@
 /* Klaverdomp: the attention operator of ONNX Attention 24 in f32, with key and value caches, and the house exponential that it uses.
  *
- * This header is for C99 and C++. It declares the five functions of libklaverdomp.a, which have a number at the end of their names, and
+ * This header is for C99 and C++. It declares the six functions of libklaverdomp.a, which have a number at the end of their names, and
  * has a wrapper for each, without that number, which is the function to call.
  *
  * EDITION. The number at the end of a name is the edition of the binary interface. A change of a record, a parameter or a meaning gives
@@ -135,9 +135,35 @@ typedef struct klaverdomp_tensors {
     size_t work_len; /* T in every call: scratch, which holds the weights of the last row afterwards */
 } klaverdomp_tensors;
 
+/* The tensors of a step. The step profile: form is KLAVERDOMP_CACHED, mask KLAVERDOMP_NO_MASK, score_mode KLAVERDOMP_NO_SCORES and rank 4,
+ * and causal, batches, query_length and key_length are 1; every other number of the record is free. klaverdomp_step takes calls of that
+ * profile alone, which have no mask, live counts or scores. */
+typedef struct klaverdomp_step_tensors {
+    /* read */
+    const float *query;
+    size_t query_len; /* Hq * D */
+    const float *key;
+    size_t key_len; /* Hkv * D */
+    const float *value;
+    size_t value_len; /* Hkv * Dv */
+    const float *past_key;
+    size_t past_key_len; /* Hkv * P * D */
+    const float *past_value;
+    size_t past_value_len; /* Hkv * P * Dv */
+    /* written */
+    float *output;
+    size_t output_len; /* Hq * Dv */
+    float *present_key;
+    size_t present_key_len; /* Hkv * T * D: the past rows of each head and then its incoming row */
+    float *present_value;
+    size_t present_value_len; /* Hkv * T * Dv */
+    float *work;
+    size_t work_len; /* T, which is P + 1 */
+} klaverdomp_step_tensors;
+
 /* ---- the answer ---- */
 
-/* The lowest refusal that applies is the one that is given. */
+/* The lowest refusal that applies is the one that is given, but for 10: only klaverdomp_step gives it, and tests it before 1. */
 enum {
     KLAVERDOMP_DONE = 0,
     KLAVERDOMP_LIMITS = 1,        /* a dimension or T is out of its limits, or P is not 0 outside a cached call */
@@ -149,8 +175,9 @@ enum {
     KLAVERDOMP_OUTPUT_LENGTH = 6, /* a tensor that is written has the wrong length */
     KLAVERDOMP_LIVE_COUNT = 7,    /* a live count is below 0 or above T */
     KLAVERDOMP_MASK_CELL = 8,     /* a byte of the mask is above 1, or a cell of it is a NaN or plus infinity */
-    KLAVERDOMP_ELEMENT = 9        /* an element is not a number of magnitude at most 65,536; positions past the live count are not
+    KLAVERDOMP_ELEMENT = 9,       /* an element is not a number of magnitude at most 65,536; positions past the live count are not
                                      looked at */
+    KLAVERDOMP_PROFILE = 10       /* the record is not of the step profile, which stands at klaverdomp_step_tensors */
 };
 
 /* The tensors of refusal 9, in the order in which they are searched. */
@@ -175,7 +202,8 @@ typedef struct klaverdomp_answer {
 /* Their pointers are never null, also where the length is 0. */
 
 /* The numbers of the record, in their order: form, mask, scale_kind, score_mode, rank, causal, batches, query_heads, key_heads,
- * query_length, key_length, past_length, head_size, value_size and the four of mask_dims. Any other count than 18 is refusal 1. */
+ * query_length, key_length, past_length, head_size, value_size and the four of mask_dims. Any other count than 18 is refusal 1 of
+ * klaverdomp_attention_1 and refusal 10 of klaverdomp_step_1. */
 enum { KLAVERDOMP_RECORD_NUMBERS = 18 };
 
 uint32_t klaverdomp_attention_1(
@@ -196,6 +224,20 @@ uint32_t klaverdomp_attention_1(
     float *work, size_t work_len,
     uint64_t *tensor, uint64_t *index, uint64_t *total, uint64_t *masked_rows);
 
+uint32_t klaverdomp_step_1(
+    const uint64_t *record, size_t record_len,
+    float scale,
+    const float *query, size_t query_len,
+    const float *key, size_t key_len,
+    const float *value, size_t value_len,
+    const float *past_key, size_t past_key_len,
+    const float *past_value, size_t past_value_len,
+    float *output, size_t output_len,
+    float *present_key, size_t present_key_len,
+    float *present_value, size_t present_value_len,
+    float *work, size_t work_len,
+    uint64_t *tensor, uint64_t *index, uint64_t *total, uint64_t *masked_rows);
+
 uint32_t klaverdomp_exp_neg_1(float d, float *value);
 void klaverdomp_exp_neg_row_1(float *row, size_t row_len, float largest);
 uint32_t klaverdomp_power_entry_1(uint64_t index, float *value);
@@ -203,22 +245,33 @@ uint32_t klaverdomp_default_scale_1(uint64_t head_size, float *value);
 
 /* ---- wrappers ---- */
 
-/* Attention: does the call, or refuses it and leaves every tensor as it was. */
-static inline klaverdomp_answer klaverdomp_attention(const klaverdomp_call *call, const klaverdomp_tensors *tensors)
+typedef struct klaverdomp_record {
+    uint64_t numbers[KLAVERDOMP_RECORD_NUMBERS];
+} klaverdomp_record;
+
+/* The numbers of a call's record in their order. */
+static inline klaverdomp_record klaverdomp_record_of(const klaverdomp_call *call)
 {
-    const klaverdomp_tensors t = *tensors;
-    const uint64_t record[KLAVERDOMP_RECORD_NUMBERS] = {
+    const klaverdomp_record record = { {
         call->form, call->mask, call->scale_kind, call->score_mode, call->rank, call->causal,
         call->batches, call->query_heads, call->key_heads, call->query_length, call->key_length, call->past_length,
         call->head_size, call->value_size,
         call->mask_dims[0], call->mask_dims[1], call->mask_dims[2], call->mask_dims[3]
-    };
+    } };
+    return record;
+}
+
+/* Attention: does the call, or refuses it and leaves every tensor as it was. */
+static inline klaverdomp_answer klaverdomp_attention(const klaverdomp_call *call, const klaverdomp_tensors *tensors)
+{
+    const klaverdomp_tensors t = *tensors;
+    const klaverdomp_record record = klaverdomp_record_of(call);
     const uint8_t no_byte = 0;
     const int64_t no_count = 0;
     float no_float = 0.0f;
     klaverdomp_answer answer;
     answer.refusal = klaverdomp_attention_1(
-        record, KLAVERDOMP_RECORD_NUMBERS,
+        record.numbers, KLAVERDOMP_RECORD_NUMBERS,
         call->scale,
         t.query ? t.query : &no_float, t.query ? t.query_len : 0,
         t.key ? t.key : &no_float, t.key ? t.key_len : 0,
@@ -232,6 +285,30 @@ static inline klaverdomp_answer klaverdomp_attention(const klaverdomp_call *call
         t.present_key ? t.present_key : &no_float, t.present_key ? t.present_key_len : 0,
         t.present_value ? t.present_value : &no_float, t.present_value ? t.present_value_len : 0,
         t.scores ? t.scores : &no_float, t.scores ? t.scores_len : 0,
+        t.work ? t.work : &no_float, t.work ? t.work_len : 0,
+        &answer.tensor, &answer.index, &answer.total, &answer.masked_rows);
+    return answer;
+}
+
+/* A step: answers what klaverdomp_attention does with these tensors and no others, and writes the same, where the call is of the step
+ * profile. Any other call is refusal 10. */
+static inline klaverdomp_answer klaverdomp_step(const klaverdomp_call *call, const klaverdomp_step_tensors *tensors)
+{
+    const klaverdomp_step_tensors t = *tensors;
+    const klaverdomp_record record = klaverdomp_record_of(call);
+    float no_float = 0.0f;
+    klaverdomp_answer answer;
+    answer.refusal = klaverdomp_step_1(
+        record.numbers, KLAVERDOMP_RECORD_NUMBERS,
+        call->scale,
+        t.query ? t.query : &no_float, t.query ? t.query_len : 0,
+        t.key ? t.key : &no_float, t.key ? t.key_len : 0,
+        t.value ? t.value : &no_float, t.value ? t.value_len : 0,
+        t.past_key ? t.past_key : &no_float, t.past_key ? t.past_key_len : 0,
+        t.past_value ? t.past_value : &no_float, t.past_value ? t.past_value_len : 0,
+        t.output ? t.output : &no_float, t.output ? t.output_len : 0,
+        t.present_key ? t.present_key : &no_float, t.present_key ? t.present_key_len : 0,
+        t.present_value ? t.present_value : &no_float, t.present_value ? t.present_value_len : 0,
         t.work ? t.work : &no_float, t.work ? t.work_len : 0,
         &answer.tensor, &answer.index, &answer.total, &answer.masked_rows);
     return answer;
@@ -251,6 +328,7 @@ static inline const char *klaverdomp_refusal_text(uint32_t refusal)
     case KLAVERDOMP_LIVE_COUNT: return "a live count is below 0 or above the total length";
     case KLAVERDOMP_MASK_CELL: return "a mask byte is above 1, or a mask cell is a NaN or plus infinity";
     case KLAVERDOMP_ELEMENT: return "an element is not a number of magnitude at most 65,536";
+    case KLAVERDOMP_PROFILE: return "the call is not a step: cached, causal, rank 4, one position of one batch, no mask and no scores";
     default: return "no refusal has this number";
     }
 }

@@ -1,6 +1,6 @@
 /* The attention operator of the scope document, section by section: the record and its refusals in their order, where
  * an element stands, which keys a row sees, steps 1 to 5, the house exponential, the tables, the score modes, the
- * presents, and the whole call. Plain loops, f32 throughout. */
+ * presents, the whole call, and the entry for a step. Plain loops, f32 throughout. */
 
 #include "reference.h"
 
@@ -384,4 +384,21 @@ void reference_attention(const struct reference_call *c, const struct reference_
     }
     done->total = c->P + c->Sk;
     done->masked = attend(c, in, out);
+}
+
+/* ---- A step ---- */
+
+/* 10: the record has not B 1, Sq 1, Sk 1, cached, causal, rank 4, no mask and no scores. */
+static int profile_refused(const call *c) {
+    const int one_position = c->B == 1 && c->Sq == 1 && c->Sk == 1;
+    const int cached_causal = c->form == FORM_CACHED && c->causal == 1 && c->rank == 4;
+    return !(one_position && cached_causal && c->mask_kind == MASK_NONE && c->score_mode == SCORES_NONE);
+}
+
+void reference_step(const struct reference_call *c, const struct reference_step_inputs *read,
+                    struct reference_step_outputs *written, struct reference_answer *done) {
+    const inputs in = {read->query, read->key, read->value, {0, 0}, {0, 0}, read->past_key, read->past_value, {0, 0}};
+    outputs out = {written->output, written->present_key, written->present_value, {0, 0}, written->work};
+    *done = (answer){10, 0, 0, 0, 0};
+    if (!profile_refused(c)) reference_attention(c, &in, &out, done);
 }

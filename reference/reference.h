@@ -48,6 +48,19 @@ struct reference_answer {
 void reference_attention(const struct reference_call *, const struct reference_inputs *, struct reference_outputs *,
                          struct reference_answer *);
 
+/* What the step entry is lent: no mask, live counts or scores. */
+struct reference_step_inputs {
+    struct floats query, key, value, past_key, past_value;
+};
+
+struct reference_step_outputs {
+    struct lent output, present_key, present_value, work;
+};
+
+/* The entry for a step alone: refusal 10 for a record of any other kind, tested before 1. */
+void reference_step(const struct reference_call *, const struct reference_step_inputs *,
+                    struct reference_step_outputs *, struct reference_answer *);
+
 /* Each returns 1 and the value, or 0 and +0 where there is none. */
 int reference_exp_neg(float d, float *value);
 int reference_power_entry(uint64_t f, float *value);

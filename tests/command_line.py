@@ -239,7 +239,10 @@ def demonstration(tool):
     for text in ("key position j", "query position i", "weight"):
         tool.expect(f"demo: {text}", text in texts, True)
     status, out, err = tool.run("bench", "--shape", "1", "--seconds", "0")
-    tool.expect(f"bench: status, {err}", (status, "decode step B1 Hq8 Hkv8 P511 D64" in out), (0, True))
+    tool.expect(f"bench: status, {err}", (status, out.count("decode step B1 Hq8 Hkv8 P511 D64")), (0, 3))
+    tool.expect("bench: the step entry", "step / general" in out, True)
+    status, out, err = tool.run("bench", "--shape", "3", "--seconds", "0", "--no-shares")
+    tool.expect(f"bench: no step, {err}", (status, out.count("decode step B8 Hq8"), "step / general" in out), (0, 1, False))
 
 
 def closed_output(tool):

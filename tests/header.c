@@ -28,6 +28,7 @@ static float query[1], key[2], value[2], past_key[1], past_value[1], output[1], 
 static uint8_t mask[2];
 static klaverdomp_call call;
 static klaverdomp_tensors t;
+static klaverdomp_step_tensors step;
 
 static void two_keys(void)
 {
@@ -73,11 +74,43 @@ static void one_past(void)
     t.present_key_len = t.present_value_len = 2;
 }
 
-/* The call is refused with that number and no place, and the output is as it was. */
+/* The call of one_past with the tensors of a step. */
+static void one_step(void)
+{
+    one_past();
+    memset(&step, 0, sizeof step);
+    step.query = query;
+    step.key = key;
+    step.value = value;
+    step.past_key = past_key;
+    step.past_value = past_value;
+    step.output = output;
+    step.present_key = present_key;
+    step.present_value = present_value;
+    step.work = work;
+    step.query_len = step.key_len = step.value_len = step.past_key_len = step.past_value_len = step.output_len = 1;
+    step.present_key_len = step.present_value_len = step.work_len = 2;
+    present_key[0] = present_key[1] = present_value[0] = present_value[1] = work[0] = work[1] = -7;
+}
+
+/* Whether the answer is that number without a place, and the output is as it was. */
+static int is_refused(klaverdomp_answer a, uint32_t number)
+{
+    return a.refusal == number && a.tensor == 0 && a.index == 0 && a.total == 0 && a.masked_rows == 0 && output[0] == -7;
+}
+
 static void refused(uint32_t number, const char *what)
 {
-    klaverdomp_answer a = klaverdomp_attention(&call, &t);
-    expect(a.refusal == number && a.tensor == 0 && a.index == 0 && a.total == 0 && a.masked_rows == 0 && output[0] == -7, what);
+    expect(is_refused(klaverdomp_attention(&call, &t), number), what);
+}
+
+/* The step is refused with that number and no place, and what it lends is as it was. */
+static void step_refused(uint32_t number, const char *what)
+{
+    expect(is_refused(klaverdomp_step(&call, &step), number), what);
+    expect(present_key[0] == -7 && present_key[1] == -7 && present_value[0] == -7 && present_value[1] == -7 && work[0] == -7 &&
+               work[1] == -7,
+           what);
 }
 
 static void calls_that_are_done(void)
@@ -147,6 +180,52 @@ static void calls_that_are_refused(void)
     expect(a.refusal == KLAVERDOMP_ELEMENT && a.tensor == KLAVERDOMP_VALUE && a.index == 0 && output[0] == -7, "an infinite value");
 }
 
+/* A step, each number of its profile one off, and the refusals that follow. */
+static void steps(void)
+{
+    uint64_t *const profile[8] = { &call.form, &call.mask, &call.score_mode, &call.rank, &call.causal, &call.batches, &call.query_length,
+                                   &call.key_length };
+    klaverdomp_answer a;
+    size_t i;
+    one_step();
+    a = klaverdomp_step(&call, &step);
+    expect(a.refusal == KLAVERDOMP_DONE && a.total == 2 && a.masked_rows == 0 && output[0] == 9 && work[0] == 0.5f && work[1] == 0.5f,
+           "a step");
+    expect(present_key[0] == 1 && present_key[1] == 1 && present_value[0] == 6 && present_value[1] == 12, "the presents of a step");
+    for (i = 0; i < 8; i++) {
+        one_step();
+        ++*profile[i];
+        step_refused(KLAVERDOMP_PROFILE, "a number of the profile, one above");
+        call.query_heads = 0;
+        step_refused(KLAVERDOMP_PROFILE, "a number of the profile, and no query heads");
+        one_step();
+        --*profile[i];
+        step_refused(KLAVERDOMP_PROFILE, "a number of the profile, one below");
+    }
+    one_step();
+    call.head_size = 257;
+    step_refused(KLAVERDOMP_LIMITS, "a step of head size 257");
+    one_step();
+    call.key_heads = 2;
+    step_refused(KLAVERDOMP_HEAD_GROUPS, "a step with heads in no groups");
+    one_step();
+    call.scale_kind = 2;
+    step_refused(KLAVERDOMP_SETTINGS, "a step of no scale kind");
+    one_step();
+    step.past_value = NULL;
+    step_refused(KLAVERDOMP_INPUT_LENGTH, "a null pointer in a step stands for an empty tensor");
+    one_step();
+    step.work = NULL;
+    step_refused(KLAVERDOMP_OUTPUT_LENGTH, "a step without a work row");
+    one_step();
+    past_value[0] = NAN;
+    a = klaverdomp_step(&call, &step);
+    expect(a.refusal == KLAVERDOMP_ELEMENT && a.tensor == KLAVERDOMP_PAST_VALUE && a.index == 0 && output[0] == -7, "a NaN in a step");
+    one_step();
+    call.mask_dims[0] = UINT64_MAX;
+    expect(klaverdomp_step(&call, &step).refusal == KLAVERDOMP_DONE, "the mask's dimensions are not looked at");
+}
+
 /* A record with another count of numbers than 18. */
 static void record_lengths(void)
 {
@@ -164,6 +243,16 @@ static void record_lengths(void)
                                                   &masked);
         expect(refusal == (i == KLAVERDOMP_RECORD_NUMBERS ? 3u : 1u), "a record's length");
         expect(tensor == 0 && index == 0 && total == 0 && masked == 0, "the numbers are written");
+        tensor = index = total = masked = 5;
+    }
+    record[1] = 0;
+    record[3] = KLAVERDOMP_NO_SCORES;
+    record[4] = 4;
+    for (i = 0; i <= KLAVERDOMP_RECORD_NUMBERS + 1; i++) {
+        uint32_t refusal = klaverdomp_step_1(record, i, 1, &none, 0, &none, 0, &none, 0, &none, 0, &none, 0, &none, 0, &none, 0, &none, 0,
+                                             &none, 0, &tensor, &index, &total, &masked);
+        expect(refusal == (i == KLAVERDOMP_RECORD_NUMBERS ? 5u : 10u), "the length of a step's record");
+        expect(tensor == 0 && index == 0 && total == 0 && masked == 0, "a step's numbers are written");
         tensor = index = total = masked = 5;
     }
 }
@@ -193,9 +282,10 @@ int main(void)
     uint32_t n;
     calls_that_are_done();
     calls_that_are_refused();
+    steps();
     record_lengths();
     values();
-    for (n = 0; n <= 9; n++)
-        expect(strcmp(klaverdomp_refusal_text(n), klaverdomp_refusal_text(10)) != 0, "a refusal's text");
+    for (n = 0; n <= KLAVERDOMP_PROFILE; n++)
+        expect(strcmp(klaverdomp_refusal_text(n), klaverdomp_refusal_text(KLAVERDOMP_PROFILE + 1)) != 0, "a refusal's text");
     return failures != 0;
 }

@@ -1,5 +1,6 @@
-/* One call of the library and one of the plain C program of reference/, for tools/instructions.sh to count their instructions.
- * Arguments: B Hq Hkv P S D. The call is cached and causal, with S positions after P past ones. */
+/* One call of the library and one of the plain C program of reference/, for tools/instructions.sh to count their instructions; where
+ * B and S are 1, one at the step entry too. Arguments: B Hq Hkv P S D. The call is cached and causal, with S positions after P past
+ * ones. */
 #include <stdio.h>
 #include <stdlib.h>
 #include <string.h>
@@ -31,6 +32,7 @@ int main(int argc, char **argv)
     float *q = tensor(nq), *k = tensor(nk), *v = tensor(nk), *pk = tensor(np), *pv = tensor(np);
     float *y = tensor(nq), *ck = tensor(nc), *cv = tensor(nc), *w = tensor(T);
     float *y2 = tensor(nq), *ck2 = tensor(nc), *cv2 = tensor(nc), *w2 = tensor(T);
+    int same = 1;
 
     klaverdomp_call call = {
         .form = KLAVERDOMP_CACHED, .score_mode = KLAVERDOMP_NO_SCORES, .rank = 4, .causal = 1,
@@ -44,14 +46,26 @@ int main(int argc, char **argv)
     };
     klaverdomp_answer ours = klaverdomp_attention(&call, &t);
 
+    if (B == 1 && S == 1) {
+        klaverdomp_step_tensors st = {
+            .query = q, .query_len = nq, .key = k, .key_len = nk, .value = v, .value_len = nk,
+            .past_key = pk, .past_key_len = np, .past_value = pv, .past_value_len = np,
+            .output = y2, .output_len = nq, .present_key = ck2, .present_key_len = nc, .present_value = cv2, .present_value_len = nc,
+            .work = w2, .work_len = T,
+        };
+        klaverdomp_answer step = klaverdomp_step(&call, &st);
+        same = step.refusal == 0 && !memcmp(y, y2, nq * sizeof *y) && !memcmp(ck, ck2, nc * sizeof *y)
+            && !memcmp(cv, cv2, nc * sizeof *y) && !memcmp(w, w2, T * sizeof *y);
+    }
+
     struct reference_call rc = {FORM_CACHED, MASK_NONE, SCALE_ABSENT, SCORES_NONE, 4, 1, B, Hq, Hkv, S, S, P, D, D, {0}, 0.0f};
     struct reference_inputs in = {{q, nq}, {k, nk}, {v, nk}, {0, 0}, {0, 0}, {pk, np}, {pv, np}, {0, 0}};
     struct reference_outputs out = {{y2, nq}, {ck2, nc}, {cv2, nc}, {0, 0}, {w2, T}};
     struct reference_answer theirs;
     reference_attention(&rc, &in, &out, &theirs);
 
-    int same = ours.refusal == 0 && theirs.refusal == 0 && !memcmp(y, y2, nq * sizeof *y) && !memcmp(ck, ck2, nc * sizeof *y)
+    same = same && ours.refusal == 0 && theirs.refusal == 0 && !memcmp(y, y2, nq * sizeof *y) && !memcmp(ck, ck2, nc * sizeof *y)
         && !memcmp(cv, cv2, nc * sizeof *y) && !memcmp(w, w2, T * sizeof *y);
-    if (!same) return fprintf(stderr, "the two differ\n"), 1;
+    if (!same) return fprintf(stderr, "they differ\n"), 1;
     return 0;
 }

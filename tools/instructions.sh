@@ -1,5 +1,6 @@
 #!/usr/bin/env bash
 # Instructions of one call, in millions, of the library and of the plain C program, as callgrind counts them: steady where times are not.
+# Where the step entry takes the call, how many more it needs than the general entry.
 # Without an argument the five shapes of `klaverdomp bench`, then a decode step as T grows and as B * Hq grows.
 # `tools/instructions.sh B Hq Hkv P S D` counts one shape. KLAVERDOMP_LIB_DIR names a folder with libklaverdomp.a.
 set -eu
@@ -13,15 +14,18 @@ gcc -O2 -Wall tools/instructions.c "$made/reference.o" "$library" -o "$made/inst
 count() { # FUNCTION B Hq Hkv P S D
     local function=$1
     shift
-    valgrind --tool=callgrind --callgrind-out-file=/dev/null --toggle-collect="$function" "$made/instructions" "$@" 2>&1 |
-        awk '/Collected/ { printf "%.2f", $4 / 1e6; found = 1 } END { exit !found }'
+    LD_BIND_NOW=1 valgrind --tool=callgrind --callgrind-out-file=/dev/null --toggle-collect="$function" "$made/instructions" "$@" 2>&1 |
+        awk '/Collected/ { print $4; found = 1 } END { exit !found }'
 }
 
 shape() { # B Hq Hkv P S D
     local ours theirs
     ours=$(count klaverdomp_attention_1 "$@")
     theirs=$(count reference_attention "$@")
-    printf 'B%s Hq%s Hkv%s P%s S%s D%s: library %s M, plain C %s M, ratio %.2f\n' "$@" "$ours" "$theirs" "$(echo "$ours $theirs" | awk '{ print $1 / $2 }')"
+    printf 'B%s Hq%s Hkv%s P%s S%s D%s: ' "$@"
+    echo "$ours $theirs" | awk '{ printf "library %.2f M, plain C %.2f M, ratio %.2f", $1 / 1e6, $2 / 1e6, $1 / $2 }'
+    [ "$1 $5" != "1 1" ] || printf ', step entry %+d' $(($(count klaverdomp_step_1 "$@") - ours))
+    echo
 }
 
 if [ $# -gt 0 ]; then

@@ -11,6 +11,14 @@ pub const ABSENT: u64 = 0;
 pub const GIVEN: u64 = 1;
 pub const NO_SCORES: u64 = 255;
 
+/// Where a call is made.
+#[derive(Clone, Copy, Debug, PartialEq)]
+pub enum Entry {
+    General,
+    /// Lends no masks, live counts and scores.
+    Step,
+}
+
 /// The record's numbers by name, in the order in which they are handed over.
 #[derive(Clone, Copy, Debug, Default, PartialEq)]
 pub struct Record {
@@ -32,6 +40,12 @@ pub struct Record {
 }
 
 pub const RECORD_LENGTH: usize = 18;
+
+/// The step profile: where its numbers stand in the record, their names and what they are.
+pub const PROFILE: [(usize, &str, u64); 8] = [
+    (0, "form", CACHED), (1, "mask kind", NO_MASK), (3, "score mode", NO_SCORES), (4, "rank", 4), (5, "causal", 1), (6, "B", 1),
+    (9, "Sq", 1), (10, "Sk", 1),
+];
 
 impl Record {
     pub fn numbers(&self) -> [u64; RECORD_LENGTH] {
@@ -151,6 +165,12 @@ impl Call {
             Ok(numbers) => Record::from_numbers(numbers),
             Err(_) => Record::default(),
         }
+    }
+
+    /// Which numbers of the record are not those of the step profile, as places in `PROFILE`; all of them where there are not 18.
+    pub fn off_profile(&self) -> Vec<usize> {
+        let whole = self.record.len() == RECORD_LENGTH;
+        (0..PROFILE.len()).filter(|&n| !whole || self.record[PROFILE[n].0] != PROFILE[n].2).collect()
     }
 
     /// The call's parameters and lengths, for a report.

@@ -40,7 +40,7 @@ pub struct Left {
 }
 
 /// Makes the call by the library, everything lent lying at one side of unreadable pages.
-pub fn by_library(memory: &mut Memory, call: &Call, side: Side, unwritten: u64) -> Left {
+pub fn by_library(memory: &mut Memory, call: &Call, entry: Entry, side: Side, unwritten: u64) -> Left {
     let [query, key, value, past_key, past_value] = &mut memory.floats;
     let i = &call.inputs;
     let record: &[u64] = memory.record.place(&call.record, side);
@@ -65,8 +65,8 @@ pub fn by_library(memory: &mut Memory, call: &Call, side: Side, unwritten: u64) 
     };
     let mut slots = memory.answer.each_mut().map(|region| &mut region.place(&[unwritten], side)[0]);
     let [tensor, index, total, masked] = &mut slots;
-    let refusal =
-        ffi::library_attention(record, call.scale, &inputs, &mut outputs, AnswerSlots { tensor, index, total, masked });
+    let attend = if entry == Entry::Step { ffi::library_step } else { ffi::library_attention };
+    let refusal = attend(record, call.scale, &inputs, &mut outputs, AnswerSlots { tensor, index, total, masked });
     let kept = record == call.record
         && inputs.query == i.query
         && inputs.key == i.key
@@ -91,7 +91,7 @@ pub fn by_library(memory: &mut Memory, call: &Call, side: Side, unwritten: u64) 
 }
 
 /// Makes the call by the reference, on copies.
-pub fn by_reference(call: &Call) -> (Answer, Outputs) {
+pub fn by_reference(call: &Call, entry: Entry) -> (Answer, Outputs) {
     let i = &call.inputs;
     let inputs = InputSlices {
         query: &i.query,
@@ -111,7 +111,8 @@ pub fn by_reference(call: &Call) -> (Answer, Outputs) {
         scores: &mut o.scores,
         work: &mut o.work,
     };
-    let answer = ffi::reference_attention(&call.decoded(), call.scale, &inputs, &mut outputs);
+    let attend = if entry == Entry::Step { ffi::reference_step } else { ffi::reference_attention };
+    let answer = attend(&call.decoded(), call.scale, &inputs, &mut outputs);
     (answer, o)
 }
 
@@ -126,11 +127,22 @@ pub fn difference(library: &Outputs, other: &Outputs) -> Option<String> {
     None
 }
 
-/// Makes the call by both and compares. The outcome is what the library left.
-pub fn compare(memory: &mut Memory, call: &Call, random: &mut Random) -> Result<Left, String> {
-    let side = if random.once_in(2) { Side::BeforeUnreadable } else { Side::AfterUnreadable };
-    let left = by_library(memory, call, side, random.bits64());
-    let (answer, outputs) = by_reference(call);
+fn random_side(random: &mut Random) -> Side {
+    if random.once_in(2) { Side::BeforeUnreadable } else { Side::AfterUnreadable }
+}
+
+/// Makes the call by both and compares, and at the step entry also with the general one. The outcome is what the library left.
+pub fn compare(memory: &mut Memory, call: &Call, entry: Entry, random: &mut Random) -> Result<Left, String> {
+    let left = against_reference(memory, call, entry, random)?;
+    if entry == Entry::Step {
+        against_general_entry(memory, call, &left, random)?;
+    }
+    Ok(left)
+}
+
+fn against_reference(memory: &mut Memory, call: &Call, entry: Entry, random: &mut Random) -> Result<Left, String> {
+    let left = by_library(memory, call, entry, random_side(random), random.bits64());
+    let (answer, outputs) = by_reference(call, entry);
     if left.answer != answer {
         return Err(format!("the library answered {:?}, the reference {answer:?}", left.answer));
     }
@@ -146,4 +158,21 @@ pub fn compare(memory: &mut Memory, call: &Call, random: &mut Random) -> Result<
         }
     }
     Ok(left)
+}
+
+/// The step entry answers 10 without a place exactly where the record is not of its profile. Where it is, the library's general
+/// entry answers and leaves the same; the tensors that only that one is lent are empty then.
+fn against_general_entry(memory: &mut Memory, call: &Call, left: &Left, random: &mut Random) -> Result<(), String> {
+    let of_profile = call.off_profile().is_empty();
+    if of_profile == (left.answer == Answer { refusal: 10, ..Answer::default() }) {
+        return Err(format!("of the profile is {of_profile}, but the library answered {:?}", left.answer));
+    }
+    if !of_profile {
+        return Ok(());
+    }
+    let general = by_library(memory, call, Entry::General, random_side(random), random.bits64());
+    if left.answer != general.answer {
+        return Err(format!("the library answered {:?}, its general entry {:?}", left.answer, general.answer));
+    }
+    difference(&left.outputs, &general.outputs).map_or(Ok(()), |text| Err(format!("beside the general entry {text}")))
 }

@@ -41,11 +41,11 @@ struct Shown {
 
 impl Examples {
     fn make(&mut self, record: Record, inputs: Inputs) -> Result<Shown, String> {
-        self.make_lending(record, inputs, &record.lengths())
+        self.make_lending(Entry::General, record, inputs, &record.lengths())
     }
 
     /// What is lent for writing has these lengths.
-    fn make_lending(&mut self, record: Record, inputs: Inputs, lengths: &Lengths) -> Result<Shown, String> {
+    fn make_lending(&mut self, entry: Entry, record: Record, inputs: Inputs, lengths: &Lengths) -> Result<Shown, String> {
         let mut noise = |length: usize| (0..length).map(|_| self.random.bits32()).collect::<Vec<_>>();
         let outputs = Outputs {
             output: noise(lengths.output),
@@ -55,7 +55,8 @@ impl Examples {
             work: noise(lengths.work),
         };
         let call = Call { record: record.numbers().to_vec(), scale: 1f32.to_bits(), inputs, outputs };
-        let left = compare(&mut self.memory, &call, &mut self.random).map_err(|text| format!("{text}\n  {}", call.describe()))?;
+        let left = compare(&mut self.memory, &call, entry, &mut self.random);
+        let left = left.map_err(|text| format!("{text}\n  {}", call.describe()))?;
         let floats = |bits: &[u32]| bits.iter().map(|&b| f32::from_bits(b)).collect();
         self.made += 1;
         Ok(Shown {
@@ -115,14 +116,32 @@ fn values(e: &mut Examples) -> Result<(), String> {
     let (record, mut inputs) = small(&[1.0], &[1.0], &[12.0]);
     inputs.past_key = vec![1f32.to_bits()];
     inputs.past_value = vec![6f32.to_bits()];
-    let step = e.make(Record { causal: 1, form: CACHED, past: 1, ..record }, inputs)?;
+    let record = Record { causal: 1, form: CACHED, past: 1, ..record };
+    let step = e.make(record, inputs.clone())?;
     let presents = same(&step.present_key, &[1.0, 1.0]) && same(&step.present_value, &[6.0, 12.0]);
     expect("E", same(&step.output, &[9.0]) && presents && step.answer == done(2, 0))?;
+    step_entry(e, Record { score_mode: NO_SCORES, ..record }, inputs)?;
     let (record, inputs) = small(&[1.0], &[100.0, 0.0], &[8.0, 9.0]);
     let f = e.make(record, inputs)?;
     expect("F", same(&f.output, &[8.0]) && same(&f.work, &[1.0, 0.0]))?;
     let (record, inputs) = small(&[1.0], &[83.0, 0.0], &[8.0, 9.0]);
     expect("F", e.make(record, inputs)?.work[1] > 0.0)
+}
+
+/// E at the step entry, and with each number of the profile another one.
+fn step_entry(e: &mut Examples, record: Record, inputs: Inputs) -> Result<(), String> {
+    let step = e.make_lending(Entry::Step, record, inputs.clone(), &record.lengths())?;
+    let presents = same(&step.present_key, &[1.0, 1.0]) && same(&step.present_value, &[6.0, 12.0]);
+    expect("E as a step", same(&step.output, &[9.0]) && same(&step.work, &[0.5, 0.5]) && presents && step.answer == done(2, 0))?;
+    for (at, name, right) in PROFILE {
+        for other in [right.wrapping_sub(1), right + 1, right + (1 << 32), u64::MAX] {
+            let mut numbers = record.numbers();
+            numbers[at] = other;
+            let off = e.make_lending(Entry::Step, Record::from_numbers(&numbers), inputs.clone(), &record.lengths())?;
+            expect(&format!("E as a step of another {name}"), off.answer == refused(10, 0, 0))?;
+        }
+    }
+    Ok(())
 }
 
 /// A row with keys on both sides of the d from which on E is 0, all of them seen, and with every third one hidden.
@@ -220,7 +239,7 @@ fn lengths(e: &mut Examples) -> Result<(), String> {
     expect("L", e.make(record, inputs)?.answer.total == 2048)?;
     let (record, inputs) = small(&[2.0], &[3.0], &[5.0]);
     let short = Lengths { work: 0, ..record.lengths() };
-    expect("refusal 6", e.make_lending(record, inputs, &short)?.answer == refused(6, 0, 0))
+    expect("refusal 6", e.make_lending(Entry::General, record, inputs, &short)?.answer == refused(6, 0, 0))
 }
 
 /// All of them; how many calls that was.

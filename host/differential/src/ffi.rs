@@ -47,6 +47,14 @@ mod library {
             work: *mut f32, work_len: usize,
             tensor: *mut u64, index: *mut u64, total: *mut u64, masked: *mut u64,
         ) -> u32;
+        pub fn klaverdomp_step_1(
+            record: *const u64, record_len: usize, scale: f32,
+            query: *const f32, query_len: usize, key: *const f32, key_len: usize, value: *const f32, value_len: usize,
+            past_key: *const f32, past_key_len: usize, past_value: *const f32, past_value_len: usize,
+            output: *mut f32, output_len: usize, present_key: *mut f32, present_key_len: usize,
+            present_value: *mut f32, present_value_len: usize, work: *mut f32, work_len: usize,
+            tensor: *mut u64, index: *mut u64, total: *mut u64, masked: *mut u64,
+        ) -> u32;
         pub fn klaverdomp_exp_neg_1(d: f32, value: *mut f32) -> u32;
         pub fn klaverdomp_exp_neg_row_1(row: *mut f32, len: usize, largest: f32);
         pub fn klaverdomp_power_entry_1(f: u64, value: *mut f32) -> u32;
@@ -95,6 +103,23 @@ mod reference {
     }
 
     #[repr(C)]
+    pub struct StepInputs {
+        pub query: Lent<f32>,
+        pub key: Lent<f32>,
+        pub value: Lent<f32>,
+        pub past_key: Lent<f32>,
+        pub past_value: Lent<f32>,
+    }
+
+    #[repr(C)]
+    pub struct StepOutputs {
+        pub output: LentMut,
+        pub present_key: LentMut,
+        pub present_value: LentMut,
+        pub work: LentMut,
+    }
+
+    #[repr(C)]
     #[derive(Default)]
     pub struct Answer {
         pub refusal: u64,
@@ -106,6 +131,7 @@ mod reference {
 
     extern "C" {
         pub fn reference_attention(call: *const Call, inputs: *const Inputs, outputs: *mut Outputs, answer: *mut Answer);
+        pub fn reference_step(call: *const Call, inputs: *const StepInputs, outputs: *mut StepOutputs, answer: *mut Answer);
         pub fn reference_exp_neg(d: f32, value: *mut f32) -> i32;
         pub fn reference_power_entry(f: u64, value: *mut f32) -> i32;
         pub fn reference_default_scale(size: u64, value: *mut f32) -> i32;
@@ -137,11 +163,44 @@ pub fn library_attention(record: &[u64], scale: u32, i: &InputSlices, o: &mut Ou
     }
 }
 
+/// The library's step; masks, live counts and scores are not lent to it.
+pub fn library_step(record: &[u64], scale: u32, i: &InputSlices, o: &mut OutputSlices, a: AnswerSlots) -> u32 {
+    unsafe {
+        library::klaverdomp_step_1(
+            record.as_ptr(), record.len(), f32::from_bits(scale),
+            floats(i.query), i.query.len(), floats(i.key), i.key.len(), floats(i.value), i.value.len(),
+            floats(i.past_key), i.past_key.len(), floats(i.past_value), i.past_value.len(),
+            floats_mut(o.output), o.output.len(), floats_mut(o.present_key), o.present_key.len(),
+            floats_mut(o.present_value), o.present_value.len(), floats_mut(o.work), o.work.len(),
+            a.tensor, a.index, a.total, a.masked,
+        )
+    }
+}
+
+fn lent(bits: &[u32]) -> reference::Lent<f32> {
+    reference::Lent { at: floats(bits), len: bits.len() }
+}
+
+fn lent_mut(bits: &mut [u32]) -> reference::LentMut {
+    reference::LentMut { at: floats_mut(bits), len: bits.len() }
+}
+
+/// What the reference answers to the record.
+fn reference_answer(record: &Record, scale: u32, make: impl FnOnce(&reference::Call, &mut reference::Answer)) -> Answer {
+    let call = reference::Call { numbers: record.numbers(), scale: f32::from_bits(scale) };
+    let mut answer = reference::Answer::default();
+    make(&call, &mut answer);
+    Answer {
+        refusal: answer.refusal,
+        tensor: answer.tensor,
+        index: answer.index,
+        total: answer.total,
+        masked: answer.masked,
+    }
+}
+
 /// The reference's attention.
 pub fn reference_attention(record: &Record, scale: u32, i: &InputSlices, o: &mut OutputSlices) -> Answer {
-    let lent = |bits: &[u32]| reference::Lent { at: floats(bits), len: bits.len() };
-    let lent_mut = |bits: &mut [u32]| reference::LentMut { at: floats_mut(bits), len: bits.len() };
-    let call = reference::Call { numbers: record.numbers(), scale: f32::from_bits(scale) };
     let inputs = reference::Inputs {
         query: lent(i.query),
         key: lent(i.key),
@@ -159,15 +218,27 @@ pub fn reference_attention(record: &Record, scale: u32, i: &InputSlices, o: &mut
         scores: lent_mut(o.scores),
         work: lent_mut(o.work),
     };
-    let mut answer = reference::Answer::default();
-    unsafe { reference::reference_attention(&call, &inputs, &mut outputs, &mut answer) };
-    Answer {
-        refusal: answer.refusal,
-        tensor: answer.tensor,
-        index: answer.index,
-        total: answer.total,
-        masked: answer.masked,
-    }
+    let make = |call: &_, answer: &mut _| unsafe { reference::reference_attention(call, &inputs, &mut outputs, answer) };
+    reference_answer(record, scale, make)
+}
+
+/// The reference's step; masks, live counts and scores are not lent to it.
+pub fn reference_step(record: &Record, scale: u32, i: &InputSlices, o: &mut OutputSlices) -> Answer {
+    let inputs = reference::StepInputs {
+        query: lent(i.query),
+        key: lent(i.key),
+        value: lent(i.value),
+        past_key: lent(i.past_key),
+        past_value: lent(i.past_value),
+    };
+    let mut outputs = reference::StepOutputs {
+        output: lent_mut(o.output),
+        present_key: lent_mut(o.present_key),
+        present_value: lent_mut(o.present_value),
+        work: lent_mut(o.work),
+    };
+    let make = |call: &_, answer: &mut _| unsafe { reference::reference_step(call, &inputs, &mut outputs, answer) };
+    reference_answer(record, scale, make)
 }
 
 /// What a function that writes one value gave: its result and the bits of the value, whatever they were before.

@@ -9,29 +9,38 @@ const TOTAL_LIMIT: u64 = 2048;
 /// One call. About half of them have faults.
 pub fn random_call(random: &mut Random) -> Call {
     let record = random_record(random);
-    let faults = match random.below(10) {
-        0..=4 => 0,
-        5..=7 => 1,
-        _ => random.between(2, 5),
-    };
+    let faults = random_faults(random);
     let late_only = random.once_in(2);
     let changed = change_record(random, &record, if late_only { 0 } else { faults });
-    let lengths = lengths_near(&changed, &record);
-    let mut call = Call {
-        record: changed.numbers().to_vec(),
-        scale: random_scale(random),
-        inputs: random_inputs(random, &changed, &lengths),
-        outputs: random_outputs(random, &lengths),
-    };
+    let mut call = call_of(random, &changed, &lengths_near(&changed, &record));
     for _ in 0..faults {
         add_fault(random, &mut call, late_only);
     }
     call
 }
 
+/// How many faults a call has: none in half of them.
+pub fn random_faults(random: &mut Random) -> u64 {
+    match random.below(10) {
+        0..=4 => 0,
+        5..=7 => 1,
+        _ => random.between(2, 5),
+    }
+}
+
+/// A call of this record with tensors of these lengths.
+pub fn call_of(random: &mut Random, record: &Record, lengths: &Lengths) -> Call {
+    Call {
+        record: record.numbers().to_vec(),
+        scale: random_scale(random),
+        inputs: random_inputs(random, record, lengths),
+        outputs: random_outputs(random, lengths),
+    }
+}
+
 // ---- the record
 
-fn random_size(random: &mut Random, limit: u64) -> u64 {
+pub fn random_size(random: &mut Random, limit: u64) -> u64 {
     match random.below(9) {
         0..=2 => 1,
         3 | 4 => random.between(1, limit.min(4)),
@@ -44,7 +53,7 @@ fn random_size(random: &mut Random, limit: u64) -> u64 {
 }
 
 /// How many products a call may cost. Most calls are tiny.
-fn random_budget(random: &mut Random) -> u64 {
+pub fn random_budget(random: &mut Random) -> u64 {
     match random.below(1000) {
         0..=899 => 2_000,
         900..=993 => 60_000,
@@ -56,11 +65,15 @@ fn random_budget(random: &mut Random) -> u64 {
 fn random_record(random: &mut Random) -> Record {
     let budget = random_budget(random);
     let form = random.below(3);
-    // B, Hq, Sq, Sk, P, D, Dv, halved one at a time until the call is within its budget.
     let mut sizes = [8, 32, 2048, 2048, 2048, 256, 256].map(|limit| random_size(random, limit));
     if form != CACHED || random.once_in(4) {
         sizes[4] = 0;
     }
+    sized_record(random, form, sizes, budget)
+}
+
+/// A record of this form. B, Hq, Sq, Sk, P, D, Dv are halved one at a time until the call is within its budget.
+pub fn sized_record(random: &mut Random, form: u64, mut sizes: [u64; 7], budget: u64) -> Record {
     loop {
         let [batches, heads, queries, keys, past, size, value_size] = sizes;
         let total = keys + past;
@@ -263,7 +276,7 @@ fn random_outputs(random: &mut Random, lengths: &Lengths) -> Outputs {
 // ---- faults
 
 /// The lengths of the changed record where they are small, else those of the record before the change.
-fn lengths_near(changed: &Record, before: &Record) -> Lengths {
+pub fn lengths_near(changed: &Record, before: &Record) -> Lengths {
     let small = |record: &Record| {
         let l = record.lengths();
         let all = l.query + l.key + l.value + l.bool_mask + l.float_mask + l.past_key + l.past_value + l.live;
@@ -272,7 +285,7 @@ fn lengths_near(changed: &Record, before: &Record) -> Lengths {
     if changed == before || small(changed) { changed.lengths() } else { before.lengths() }
 }
 
-fn odd_number(random: &mut Random, now: u64) -> u64 {
+pub fn odd_number(random: &mut Random, now: u64) -> u64 {
     match random.below(6) {
         0 => random.pick(&[0, 1, 2, 3, 4, 5, 6, 7, 8, 9]),
         1 => random.pick(&[32, 33, 254, 255, 256, 257, 2047, 2048, 2049, 65536]),
@@ -320,10 +333,16 @@ fn resize<T: Copy>(random: &mut Random, tensor: &mut Vec<T>, fill: T) {
     }
 }
 
-fn change_length(random: &mut Random, call: &mut Call) {
+/// Another length for a tensor that is lent to the entry.
+pub fn change_length(random: &mut Random, call: &mut Call, entry: Entry) {
     let fill = random.pick(&[0, 1f32.to_bits(), 0x7FC0_1234]);
     let (i, o) = (&mut call.inputs, &mut call.outputs);
-    match random.below(13) {
+    let tensor = match entry {
+        Entry::General => random.below(13),
+        // No mask, live counts or scores.
+        Entry::Step => random.pick(&[0, 1, 2, 5, 6, 8, 9, 10, 12]),
+    };
+    match tensor {
         0 => resize(random, &mut i.query, fill),
         1 => resize(random, &mut i.key, fill),
         2 => resize(random, &mut i.value, fill),
@@ -362,12 +381,17 @@ fn put<T: Copy>(random: &mut Random, tensor: &mut [T], cell: T) {
     }
 }
 
-/// A fault in what refusals 7 to 9 look at.
-fn add_late_fault(random: &mut Random, call: &mut Call) {
+/// A fault in what refusals 7 to 9, or at the step entry refusal 9, look at.
+pub fn add_late_fault(random: &mut Random, call: &mut Call, entry: Entry) {
     let total = call.decoded().past.saturating_add(call.decoded().key_length).min(1 << 40) as i64;
     let bits = odd_element(random);
     let i = &mut call.inputs;
-    match random.below(9) {
+    let tensor = match entry {
+        Entry::General => random.below(9),
+        // No mask or live counts.
+        Entry::Step => random.between(4, 8),
+    };
+    match tensor {
         0 | 1 => {
             let count = random.pick(&[-1, total + 1, i64::MIN, i64::MAX, total + (1 << 32), -total, total]);
             put(random, &mut i.live, count);
@@ -388,24 +412,30 @@ fn add_late_fault(random: &mut Random, call: &mut Call) {
     }
 }
 
+/// A scale that is not allowed.
+pub fn odd_scale(random: &mut Random) -> u32 {
+    let nan = 0x7F80_0001 | random.bits32();
+    random.pick(&[
+        0, 0x8000_0000, 0x8000_0001, (-1f32).to_bits(), nan, f32::INFINITY.to_bits(), 1024f32.to_bits() + 1,
+        f32::MAX.to_bits(), f32::NEG_INFINITY.to_bits(),
+    ])
+}
+
+/// A record of another length than 18.
+pub fn change_record_length(random: &mut Random, call: &mut Call) {
+    let length = random.pick(&[0, 1, 17, 19, 36]);
+    call.record.resize(length, 1);
+}
+
 fn add_fault(random: &mut Random, call: &mut Call, late_only: bool) {
     if late_only {
-        return add_late_fault(random, call);
+        return add_late_fault(random, call, Entry::General);
     }
     match random.below(10) {
-        0..=2 => change_length(random, call),
-        3..=6 => add_late_fault(random, call),
-        7 => {
-            let nan = 0x7F80_0001 | random.bits32();
-            call.scale = random.pick(&[
-                0, 0x8000_0000, 0x8000_0001, (-1f32).to_bits(), nan, f32::INFINITY.to_bits(), 1024f32.to_bits() + 1,
-                f32::MAX.to_bits(), f32::NEG_INFINITY.to_bits(),
-            ]);
-        }
-        8 if random.once_in(4) => {
-            let length = random.pick(&[0, 1, 17, 19, 36]);
-            call.record.resize(length, 1);
-        }
+        0..=2 => change_length(random, call, Entry::General),
+        3..=6 => add_late_fault(random, call, Entry::General),
+        7 => call.scale = odd_scale(random),
+        8 if random.once_in(4) => change_record_length(random, call),
         8 => {}
         _ => {
             let at = random.index(call.record.len().max(1));

@@ -1,8 +1,9 @@
 //! Differential tests of the static library: the scope document's examples, the exponential and the tables, random
-//! sequences, and random calls against the plain f32 reference (bit for bit) and the f64 program (within a bound).
+//! sequences, and random calls against the plain f32 reference (bit for bit) and the f64 program (within a bound). Beside
+//! each random call stands one at the step entry.
 //!
 //!   klaverdomp-differential [--calls N] [--seed S] [--sessions N] [--exp-stride N] [--exact FILE]
-//!   klaverdomp-differential --seed S --only K        one random call again, with its parameters
+//!   klaverdomp-differential --seed S --only K        one random call and its step again, with their parameters
 //!   klaverdomp-differential --seed S --only-session K
 //!
 //! The file has the lines that `tools/exponential_vectors.py lines` prints.
@@ -21,11 +22,13 @@ mod guard;
 mod lines;
 mod random;
 mod sequences;
+mod steps;
 mod textbook;
 
 use accuracy::Accuracy;
+use call::{Call, Entry};
 use compare::Memory;
-use coverage::Coverage;
+use coverage::{Coverage, StepCoverage};
 use random::Random;
 use std::process::ExitCode;
 use std::time::Instant;
@@ -77,20 +80,29 @@ impl Options {
 #[derive(Default)]
 struct Tally {
     coverage: Coverage,
+    steps: StepCoverage,
     accuracy: Accuracy,
 }
 
+/// The step of a call has the numbers from 2^62 on, so that it has nothing in common with a random call.
+const STEPS: u64 = 1 << 62;
+
 fn random_call(seed: u64, number: u64, memory: &mut Memory, tally: &mut Tally) -> Result<(), String> {
-    let mut random = Random::new(seed, number);
+    let (mut random, mut step_random) = (Random::new(seed, number), Random::new(seed, STEPS + number));
     let call = generate::random_call(&mut random);
     guard::note(guard::Part::Call, seed, number);
-    let at = |text: String| format!("call {number}: {text}\n  {}\n  replay with --seed {seed} --only {number}", call.describe());
-    let left = compare::compare(memory, &call, &mut random).map_err(at)?;
+    let at = |name: &str, call: &Call, text: String| {
+        format!("{name} {number}: {text}\n  {}\n  replay with --seed {seed} --only {number}", call.describe())
+    };
+    let left = compare::compare(memory, &call, Entry::General, &mut random).map_err(|text| at("call", &call, text))?;
     tally.coverage.add(&call, &left.answer);
     if left.answer.refusal == 0 {
-        let accuracy = accuracy::check(&call, &left.outputs, &left.answer, number).map_err(at)?;
+        let accuracy = accuracy::check(&call, &left.outputs, &left.answer, number).map_err(|text| at("call", &call, text))?;
         tally.accuracy.join(&accuracy);
     }
+    let step = steps::random_step(&mut step_random, &call);
+    let left = compare::compare(memory, &step, Entry::Step, &mut step_random).map_err(|text| at("step", &step, text))?;
+    tally.steps.add(&step, &left.answer);
     Ok(())
 }
 
@@ -106,9 +118,12 @@ fn replay_call(seed: u64, number: u64) -> Result<String, String> {
     let mut tally = Tally::default();
     let call = generate::random_call(&mut Random::new(seed, number));
     println!("call {number}: {}", call.describe());
-    println!("  the reference answers {:?}", compare::by_reference(&call).0);
+    println!("  the reference answers {:?}", compare::by_reference(&call, Entry::General).0);
+    let step = steps::random_step(&mut Random::new(seed, STEPS + number), &call);
+    println!("step {number}: {}", step.describe());
+    println!("  the reference answers {:?}", compare::by_reference(&step, Entry::Step).0);
     random_call(seed, number, &mut Memory::new(), &mut tally)?;
-    Ok("differential: 1 call compared, no difference".to_string())
+    Ok("differential: 1 call and 1 step compared, no difference".to_string())
 }
 
 fn replay_session(seed: u64, number: u64) -> Result<String, String> {
@@ -119,7 +134,8 @@ fn replay_session(seed: u64, number: u64) -> Result<String, String> {
 
 fn say_tally(tally: &Tally, seconds: f64) {
     let accuracy = &tally.accuracy;
-    println!("calls: {}; {seconds:.1} s", tally.coverage.describe());
+    println!("calls: {}; {seconds:.1} s with the steps", tally.coverage.describe());
+    println!("steps: {}", tally.steps.describe());
     println!(
         "f64 program: {} rows, {} of them loose; largest output error {:.3e} of its sum of |weight * value| (call {}), \
          {:.3e} where scores are at most 16 (call {}), largest weight error {:.3e} (call {}), largest part of the bound {:.3} (call {})",
@@ -164,25 +180,29 @@ fn run(options: &Options) -> Result<String, String> {
     for number in 0..options.sessions {
         session(seed, number, &mut memory, &mut sessions)?;
     }
-    println!(
-        "sequences: {} sessions, {} chunks accepted and {} refused, {} positions, {} at most; {:.1} s",
-        sessions.sessions, sessions.accepted, sessions.refused, sessions.positions, sessions.longest, start.elapsed().as_secs_f64()
-    );
+    println!("sequences: {}; {:.1} s", sessions.describe(), start.elapsed().as_secs_f64());
+    reached(options.sessions >= 2_000, sessions.missing())?;
 
     let (start, mut tally) = (Instant::now(), Tally::default());
     for number in 0..options.calls {
         random_call(seed, number, &mut memory, &mut tally)?;
     }
     say_tally(&tally, start.elapsed().as_secs_f64());
-    let missing = tally.coverage.missing();
-    if options.calls >= 200_000 && !missing.is_empty() {
+    reached(options.calls >= 200_000, [tally.coverage.missing(), tally.steps.missing()].concat())?;
+    Ok(format!(
+        "differential: {} calls compared, {} accepted, {} steps compared, {} accepted, {} chunks of {} sessions, {} values of E, \
+         0 differences",
+        options.calls, tally.coverage.answers[0], tally.steps.answers.iter().sum::<u64>(), tally.steps.answers[0],
+        sessions.accepted + sessions.refused, sessions.sessions, exp.patterns + exp.exact + lines.values
+    ))
+}
+
+/// A full run that misses something fails.
+fn reached(full: bool, missing: Vec<String>) -> Result<(), String> {
+    if full && !missing.is_empty() {
         return Err(format!("the run did not reach {}", missing.join(", ")));
     }
-    Ok(format!(
-        "differential: {} calls compared, {} accepted, {} chunks of {} sessions, {} values of E, 0 differences",
-        options.calls, tally.coverage.answers[0], sessions.accepted + sessions.refused, sessions.sessions,
-        exp.patterns + exp.exact + lines.values
-    ))
+    Ok(())
 }
 
 fn main() -> ExitCode {

@@ -1,5 +1,5 @@
-//! Whole sequences: random sessions of causal cached chunks, refused ones among them, against one plain call over the
-//! positions that were accepted.
+//! Whole sequences: random sessions of causal cached chunks at either entry, refused ones among them, against one plain
+//! call over the positions that were accepted.
 
 use crate::call::*;
 use crate::compare::{compare, Memory};
@@ -17,6 +17,11 @@ struct Position {
 struct Session {
     settings: Record,
     scale: u32,
+    /// Elements are whole numbers.
+    whole: bool,
+    /// Of eight chunks so many have one position on purpose, and so many are given at the step entry.
+    single: u64,
+    stepped: u64,
 }
 
 #[derive(Default)]
@@ -26,12 +31,45 @@ pub struct Counts {
     pub refused: u64,
     pub positions: u64,
     pub longest: u64,
+    /// Accepted chunks at the step entry.
+    pub steps: u64,
+    /// Chunks that the step entry refused by 10, and those of them that the general entry then accepted.
+    pub off_profile: u64,
+    pub given_again: u64,
+    /// Sessions with accepted chunks at both entries, and those with more than one and all at the step entry.
+    pub mixed: u64,
+    pub wholly_steps: u64,
 }
 
-/// An accepted chunk: where it began and the output it left.
+impl Counts {
+    /// What was never reached.
+    pub fn missing(&self) -> Vec<String> {
+        let reached = [
+            (self.steps, "a chunk accepted at the step entry"),
+            (self.off_profile, "a chunk refused by 10"),
+            (self.given_again, "a chunk given again at the general entry"),
+            (self.mixed, "a session at both entries"),
+            (self.wholly_steps, "a session wholly at the step entry"),
+        ];
+        reached.iter().filter(|(count, _)| *count == 0).map(|(_, what)| what.to_string()).collect()
+    }
+
+    pub fn describe(&self) -> String {
+        format!(
+            "{} sessions, {} chunks accepted and {} refused, {} positions, {} at most; at the step entry {} chunks accepted \
+             and {} refused by 10, {} of them then accepted at the general entry; {} sessions at both entries, {} wholly at the \
+             step entry",
+            self.sessions, self.accepted, self.refused, self.positions, self.longest, self.steps, self.off_profile,
+            self.given_again, self.mixed, self.wholly_steps
+        )
+    }
+}
+
+/// An accepted chunk: where it began, where it was given and the output it left.
 struct Chunk {
     past: usize,
     length: usize,
+    entry: Entry,
     output: Vec<u32>,
 }
 
@@ -71,16 +109,18 @@ fn tensor<'a>(rank: u64, batches: u64, heads: u64, size: u64, rows: &[&'a [u32]]
 impl Session {
     fn new(random: &mut Random) -> (Session, usize) {
         let long = random.once_in(100);
+        let profile = random.once_in(3);
+        let (single, stepped) = if profile { random.pick(&[(6, 4), (7, 6), (8, 8)]) } else { (0, 1) };
         let limit = |small: u64, long_limit: u64| if long { long_limit } else { small };
         let key_heads = random.between(1, limit(3, 1));
         let settings = Record {
             form: CACHED,
             mask_kind: NO_MASK,
             scale_kind: random.below(2),
-            score_mode: if long { NO_SCORES } else { random.pick(&[0, 1, 2, 3, NO_SCORES]) },
-            rank: random.between(3, 4),
+            score_mode: if long || profile { NO_SCORES } else { random.pick(&[0, 1, 2, 3, NO_SCORES]) },
+            rank: if profile { 4 } else { random.between(3, 4) },
             causal: 1,
-            batches: random.between(1, limit(3, 2)),
+            batches: if profile { 1 } else { random.between(1, limit(3, 2)) },
             query_heads: key_heads * random.between(1, limit(3, 2)),
             key_heads,
             size: random.between(1, limit(20, 4)),
@@ -90,15 +130,24 @@ impl Session {
         };
         let target = if long { 2048 } else if random.once_in(10) { random.between(1, 120) } else { random.between(1, 14) };
         let scale = random.pick(&[1f32, 0.25, 1024.0, f32::from_bits(1), 0.7]).to_bits();
-        (Session { settings, scale }, target as usize)
+        (Session { settings, scale, whole: random.once_in(3), single, stepped }, target as usize)
     }
 
-    fn position(&self, random: &mut Random, whole: bool) -> Position {
+    /// Where a chunk is given: one that is not of the step profile often at the step entry first and then at the general one.
+    fn entries(&self, random: &mut Random, call: &Call) -> &'static [Entry] {
+        match random.below(8) < self.stepped {
+            true if call.off_profile().is_empty() || random.once_in(2) => &[Entry::Step],
+            true => &[Entry::Step, Entry::General],
+            false => &[Entry::General],
+        }
+    }
+
+    fn position(&self, random: &mut Random) -> Position {
         let s = &self.settings;
         Position {
-            query: bits(random, s.batches * s.query_heads * s.size, whole),
-            key: bits(random, s.batches * s.key_heads * s.size, whole),
-            value: bits(random, s.batches * s.key_heads * s.value_size, whole),
+            query: bits(random, s.batches * s.query_heads * s.size, self.whole),
+            key: bits(random, s.batches * s.key_heads * s.size, self.whole),
+            value: bits(random, s.batches * s.key_heads * s.value_size, self.whole),
         }
     }
 
@@ -131,13 +180,14 @@ impl Session {
     }
 }
 
-fn spoil_length(random: &mut Random, call: &mut Call) {
+/// Another length for a tensor that is lent to the entry.
+fn spoil_length(random: &mut Random, call: &mut Call, entry: Entry) {
     let (i, o) = (&mut call.inputs, &mut call.outputs);
     let tensors = [
-        &mut i.query, &mut i.key, &mut i.value, &mut i.float_mask, &mut o.output, &mut o.present_key,
-        &mut o.present_value, &mut o.scores, &mut o.work,
+        &mut i.query, &mut i.key, &mut i.value, &mut o.output, &mut o.present_key, &mut o.present_value, &mut o.work,
+        &mut i.float_mask, &mut o.scores,
     ];
-    let at = random.index(tensors.len());
+    let at = random.index(if entry == Entry::Step { 7 } else { tensors.len() });
     let tensor = tensors.into_iter().nth(at).expect("one of them");
     if tensor.is_empty() || random.once_in(2) {
         tensor.push(1f32.to_bits());
@@ -156,6 +206,70 @@ fn spoil_element(random: &mut Random, positions: &mut [Position]) {
     };
     let at = random.index(rows.len());
     rows[at] = random.pick(&[0x7FC0_0001, 0xFF80_0001, 0x7F80_0000, 0xFF80_0000, (65536.0078125f32).to_bits()]);
+}
+
+/// What has been accepted so far: the positions (the book), the chunks and the outputs of the last one.
+#[derive(Default)]
+struct History {
+    book: Vec<Position>,
+    chunks: Vec<Chunk>,
+    last: Outputs,
+}
+
+/// A chunk that is given.
+struct Given {
+    positions: Vec<Position>,
+    call: Call,
+    /// 0: an element is spoilt, 1: a length is; else nothing.
+    fault: u64,
+    entries: &'static [Entry],
+}
+
+impl Given {
+    fn new(random: &mut Random, session: &Session, history: &History, length: usize) -> Given {
+        let fault = random.below(8);
+        let mut positions: Vec<Position> = (0..length).map(|_| session.position(random)).collect();
+        if fault == 0 {
+            spoil_element(random, &mut positions);
+        }
+        let mut call = session.call(random, CACHED, &positions, (history.book.len(), &history.last));
+        let entries = session.entries(random, &call);
+        if fault == 1 {
+            spoil_length(random, &mut call, entries[0]);
+        }
+        Given { positions, call, fault, entries }
+    }
+}
+
+impl History {
+    /// Gives the chunk at an entry and enters it where it is accepted. Where it is refused, but neither by 10 nor for its
+    /// lengths, the plain call over the book and the chunk is refused too.
+    fn give(
+        &mut self, random: &mut Random, memory: &mut Memory, session: &Session, given: &Given, entry: Entry,
+    ) -> Result<Answer, String> {
+        let (call, length) = (&given.call, given.positions.len());
+        let left = compare(memory, call, entry, random)?;
+        let off_profile = entry == Entry::Step && !call.off_profile().is_empty();
+        let entered = !off_profile && given.fault > 1 && self.book.len() + length <= 2048;
+        if entered != (left.answer.refusal == 0) || off_profile != (left.answer.refusal == 10) {
+            return Err(format!("entered {entered}, but answered {:?}", left.answer));
+        }
+        if entered {
+            if left.answer.total as usize != self.book.len() + length || left.answer.masked != 0 {
+                return Err(format!("answered {:?}", left.answer));
+            }
+            self.chunks.push(Chunk { past: self.book.len(), length, entry, output: left.outputs.output.clone() });
+            self.book.extend(given.positions.iter().cloned());
+            self.last = left.outputs;
+        } else if !off_profile && given.fault != 1 {
+            let all: Vec<Position> = self.book.iter().chain(&given.positions).cloned().collect();
+            let plain = session.call(random, PLAIN, &all, (0, &Outputs::default()));
+            if compare(memory, &plain, Entry::General, random)?.answer.refusal == 0 {
+                return Err(format!("the plain call over the book and the chunk is accepted\n  {}", plain.describe()));
+            }
+        }
+        Ok(left.answer)
+    }
 }
 
 /// Output rows and presents of the chunks have the bits of the plain call over the whole book.
@@ -184,61 +298,58 @@ fn against_plain(session: &Session, chunks: &[Chunk], book: &[Position], last: &
     Ok(())
 }
 
+/// Makes the next chunk and gives it.
+fn next_chunk(
+    random: &mut Random, memory: &mut Memory, session: &Session, history: &mut History, length: usize, counts: &mut Counts,
+) -> Result<(), String> {
+    let given = Given::new(random, session, history, length);
+    let past = history.book.len();
+    for (at, &entry) in given.entries.iter().enumerate() {
+        let answer = history
+            .give(random, memory, session, &given, entry)
+            .map_err(|text| format!("chunk of {length} at {past}, {entry:?} entry: {text}\n  {}", given.call.describe()))?;
+        let accepted = answer.refusal == 0;
+        counts.accepted += u64::from(accepted);
+        counts.refused += u64::from(!accepted);
+        counts.steps += u64::from(accepted && entry == Entry::Step);
+        counts.off_profile += u64::from(answer.refusal == 10);
+        counts.given_again += u64::from(accepted && at > 0);
+    }
+    Ok(())
+}
+
 /// One session.
 pub fn session(random: &mut Random, memory: &mut Memory, counts: &mut Counts) -> Result<(), String> {
     let (session, target) = Session::new(random);
-    let whole = random.once_in(3);
-    let (mut book, mut chunks, mut last) = (Vec::<Position>::new(), Vec::<Chunk>::new(), Outputs::default());
+    let mut history = History::default();
     let most = if target > 200 { 400 } else { 1 + target as u64 / 2 };
     let mut past_limit = target == 2048;
-    while book.len() < target {
-        let mut length = (random.between(1, most) as usize).min(target - book.len());
-        let fault = random.below(8);
-        if past_limit && book.len() > 1500 {
-            length = 2049 - book.len();
+    while history.book.len() < target {
+        let positions = history.book.len();
+        let most = if random.below(8) < session.single { 1 } else { most };
+        let mut length = (random.between(1, most) as usize).min(target - positions);
+        if past_limit && positions > 1500 {
+            length = 2049 - positions;
             past_limit = false;
         }
-        let mut own: Vec<Position> = (0..length).map(|_| session.position(random, whole)).collect();
-        if fault == 0 {
-            spoil_element(random, &mut own);
-        }
-        let mut call = session.call(random, CACHED, &own, (book.len(), &last));
-        if fault == 1 {
-            spoil_length(random, &mut call);
-        }
-        let entered = fault > 1 && book.len() + length <= 2048;
-        let text = |text: String, call: &Call| format!("chunk of {length} at {}: {text}\n  {}", book.len(), call.describe());
-        let left = compare(memory, &call, random).map_err(|difference| text(difference, &call))?;
-        if entered != (left.answer.refusal == 0) {
-            return Err(text(format!("entered {entered}, but answered {:?}", left.answer), &call));
-        }
-        if !entered {
-            counts.refused += 1;
-            if fault != 1 {
-                let all: Vec<Position> = book.iter().cloned().chain(own).collect();
-                let plain = session.call(random, PLAIN, &all, (0, &Outputs::default()));
-                let answer = compare(memory, &plain, random).map_err(|difference| text(difference, &plain))?.answer;
-                if answer.refusal == 0 {
-                    return Err(text("the plain call over the book and the chunk is accepted".to_string(), &plain));
-                }
-            }
-            continue;
-        }
-        if left.answer.total as usize != book.len() + length || left.answer.masked != 0 {
-            return Err(text(format!("answered {:?}", left.answer), &call));
-        }
-        counts.accepted += 1;
-        chunks.push(Chunk { past: book.len(), length, output: left.outputs.output.clone() });
-        book.extend(own);
-        last = left.outputs;
+        next_chunk(random, memory, &session, &mut history, length, counts)?;
     }
+    if target == 2048 {
+        // A 2,049th position, which is refused.
+        next_chunk(random, memory, &session, &mut history, 1, counts)?;
+    }
+    let History { book, chunks, last } = history;
     let plain = session.call(random, PLAIN, &book, (0, &Outputs::default()));
-    let left = compare(memory, &plain, random).map_err(|text| format!("the plain call: {text}\n  {}", plain.describe()))?;
+    let left = compare(memory, &plain, Entry::General, random);
+    let left = left.map_err(|text| format!("the plain call: {text}\n  {}", plain.describe()))?;
     if left.answer.refusal != 0 {
         return Err(format!("the plain call over the book answered {:?}\n  {}", left.answer, plain.describe()));
     }
     counts.sessions += 1;
     counts.positions += book.len() as u64;
     counts.longest = counts.longest.max(book.len() as u64);
+    let steps = chunks.iter().filter(|chunk| chunk.entry == Entry::Step).count();
+    counts.mixed += u64::from(steps > 0 && steps < chunks.len());
+    counts.wholly_steps += u64::from(steps > 1 && steps == chunks.len());
     against_plain(&session, &chunks, &book, &last, &left.outputs.output).map_err(|text| format!("{text}\n  {}", plain.describe()))
 }

@@ -3,7 +3,7 @@
 use crate::args::Args;
 use crate::clock::seconds;
 use crate::{progress, say, Failure};
-use klaverdomp::{attention, Buffers, Call, Form, Inputs};
+use klaverdomp::{attention, is_step, step, Buffers, Call, Done, Form, Inputs, StepInputs};
 use std::cell::RefCell;
 use std::ffi::OsString;
 use std::hint::black_box;
@@ -14,19 +14,23 @@ klaverdomp bench - how long calls take
 
   klaverdomp bench [--seconds S] [--shape N] [--no-shares]
 
-  --seconds S    time for each of a shape's two measurements, at least 5 rounds each (default 3)
+  --seconds S    time for each measurement of a shape, at least 5 rounds each (default 3)
   --shape N      only this one of the five shapes, 1 to 5
   --no-shares    only the ratios
 
-First the library beside a plain C program that does every operation in the same order (reference/reference.c,
-gcc -O3 -ffp-contract=off for baseline x86-64; the library is built for the same), both on one thread. Their outputs are
-compared bit for bit. Then the library, the C program and a refused call take turns, one call each a round. The times are
-medians of the thread's processor time over the rounds, and 'ratio' is library / plain C; in brackets stand the ratios of
-single rounds from the 10th to the 90th in a hundred. The buffers are warm: all calls of a shape read and write the same
-ones, again and again, so the caches of the processor hold what fits. A decode step is a cached call of one position after
-P past ones; a prefill is a cached call without a past.
+First the library's general entry beside a plain C program that does every operation in the same order
+(reference/reference.c, gcc -O3 -ffp-contract=off for baseline x86-64; the library is built for the same), both on one
+thread. Their outputs are compared bit for bit. Then the library, the C program and a refused call take turns, one call each
+a round. The times are medians of the thread's processor time over the rounds, and 'ratio' is library / plain C; in brackets
+stand the ratios of single rounds from the 10th to the 90th in a hundred. The buffers are warm: all calls of a shape read and
+write the same ones, again and again, so the caches of the processor hold what fits. A decode step is a cached call of one
+position after P past ones; a prefill is a cached call without a past.
 
 'refused' is the same call with a NaN as the last element of V: the whole check and nothing else.
+
+Then, on the shapes that the step entry takes, which are the decode steps of one batch, its outputs are compared with those of
+the general entry bit for bit, and the step entry, the general entry and the C program take turns in the same way.
+'step / general' and 'step / C' are ratios of medians, and in brackets stand those of single rounds.
 
 The shares are differences between medians of library calls that take turns, since a call cannot be looked into from outside:
   check          the refused call
@@ -84,6 +88,7 @@ pub fn run(words: Vec<OsString>) -> Result<(), Failure> {
         SHAPES.iter().enumerate().filter(|(n, _)| chosen.is_none_or(|one| one == n + 1)).map(|(_, s)| s).collect();
     let time = Duration::from_secs_f64(budget);
     ratios(&shapes, time)?;
+    steps(&shapes, time)?;
     if args.flag("--no-shares") {
         return Ok(());
     }
@@ -104,26 +109,49 @@ fn ratios(shapes: &[&Shape], time: Duration) -> Result<(), Failure> {
             runs.push(Box::new(|| work.borrow_mut().plain_c()));
         }
         let times = interleave(shape.name, &mut runs, time);
-        let rounds = times[0].len();
-        let (library, refused) = (median(&times[0]), median(&times[1]));
-        let (c, ratio, spread) = match times.get(2) {
-            Some(c) => {
-                let mut each: Vec<f64> = times[0].iter().zip(c).map(|(library, c)| library / c).collect();
-                each.sort_by(f64::total_cmp);
-                let spread = format!("[{:.2} - {:.2}]", each[rounds / 10], each[rounds - 1 - rounds / 10]);
-                (duration(median(c)), format!("{:.2}", library / median(c)), spread)
-            }
-            None => ("-".to_string(), "-".to_string(), "-".to_string()),
-        };
+        let (c, (ratio, spread)) = beside_plain_c(&times[0], times.get(2));
         say(&format!(
-            "{:<38}{:>12}{c:>12}{ratio:>8}{spread:>16}{:>12}{rounds:>8}\n",
+            "{:<38}{:>12}{c:>12}{ratio:>8}{spread:>16}{:>12}{:>8}\n",
             shape.name,
-            duration(library),
-            duration(refused)
+            duration(median(&times[0])),
+            duration(median(&times[1])),
+            times[0].len()
         ))?;
     }
     if cfg!(not(reference)) {
         say("\nreference/reference.c was not there when this tool was built, so there is no plain C program to compare with.\n")?;
+    }
+    Ok(())
+}
+
+/// The step entry beside the general entry and the plain C program, on the shapes that it takes.
+fn steps(shapes: &[&Shape], time: Duration) -> Result<(), Failure> {
+    let shapes: Vec<&Shape> = shapes.iter().copied().filter(|shape| is_step(&shape.cached())).collect();
+    if shapes.is_empty() {
+        return Ok(());
+    }
+    say("\nThe step entry beside the general entry and the plain C program, each taking its turn in a round.\n\n")?;
+    say(&format!(
+        "{:<38}{:>12}{:>12}{:>12}{:>16}{:>16}{:>10}{:>16}{:>8}\n",
+        "shape", "step", "general", "plain C", "step / general", "[10% - 90%]", "step / C", "[10% - 90%]", "rounds"
+    ))?;
+    for shape in shapes {
+        let work = RefCell::new(Work::new(shape.cached()));
+        work.borrow().compare_with_step()?;
+        let mut runs: Vec<Run> = vec![Box::new(|| work.borrow_mut().step()), Box::new(|| work.borrow_mut().library())];
+        if cfg!(reference) {
+            runs.push(Box::new(|| work.borrow_mut().plain_c()));
+        }
+        let times = interleave(shape.name, &mut runs, time);
+        let (general, general_spread) = ratio(&times[0], &times[1]);
+        let (c, (c_ratio, c_spread)) = beside_plain_c(&times[0], times.get(2));
+        say(&format!(
+            "{:<38}{:>12}{:>12}{c:>12}{general:>16}{general_spread:>16}{c_ratio:>10}{c_spread:>16}{:>8}\n",
+            shape.name,
+            duration(median(&times[0])),
+            duration(median(&times[1])),
+            times[0].len()
+        ))?;
     }
     Ok(())
 }
@@ -188,20 +216,29 @@ impl Work {
         }
     }
 
-    fn inputs(&self) -> Inputs<'_> {
-        Inputs {
+    fn step_inputs(&self) -> StepInputs<'_> {
+        StepInputs {
             query: &self.query,
             key: &self.key,
             value: &self.value,
             past_key: &self.past_key,
             past_value: &self.past_value,
-            ..Inputs::default()
         }
+    }
+
+    fn inputs(&self) -> Inputs<'_> {
+        self.step_inputs().into()
     }
 
     fn library(&mut self) {
         let mut buffers = std::mem::take(&mut self.buffers);
         let _ = black_box(attention(&self.call, &self.inputs(), &mut buffers.lend()));
+        self.buffers = buffers;
+    }
+
+    fn step(&mut self) {
+        let mut buffers = std::mem::take(&mut self.buffers);
+        let _ = black_box(step(&self.call, &self.step_inputs(), &mut buffers.lend_step()));
         self.buffers = buffers;
     }
 
@@ -220,10 +257,19 @@ impl Work {
     }
 
     fn compare_with_plain_c(&self) -> Result<(), Failure> {
+        self.compare("the plain C program", |theirs| plain_c(&self.call, &self.inputs(), &mut theirs.lend()))
+    }
+
+    fn compare_with_step(&self) -> Result<(), Failure> {
+        self.compare("the step entry", |theirs| step(&self.call, &self.step_inputs(), &mut theirs.lend_step()).ok())
+    }
+
+    /// The general entry's answer and bits are those of the other.
+    fn compare(&self, name: &str, other: impl Fn(&mut Buffers) -> Option<Done>) -> Result<(), Failure> {
         let (mut ours, mut theirs) = (Buffers::new(&self.call), Buffers::new(&self.call));
         let done = attention(&self.call, &self.inputs(), &mut ours.lend());
         let done = done.map_err(|refusal| Failure::Refused(refusal.to_string()))?;
-        let same = plain_c(&self.call, &self.inputs(), &mut theirs.lend()) == Some(done);
+        let same = other(&mut theirs) == Some(done);
         let bits = |buffers: &Buffers| {
             let tensors = [&buffers.output, &buffers.present_key, &buffers.present_value, &buffers.work];
             tensors.map(|tensor| tensor.iter().map(|x| x.to_bits()).collect::<Vec<u32>>())
@@ -231,7 +277,7 @@ impl Work {
         if same && bits(&ours) == bits(&theirs) {
             return Ok(());
         }
-        Err(Failure::Differs("the library and the plain C program differ".to_string()))
+        Err(Failure::Differs(format!("the general entry and {name} differ")))
     }
 }
 
@@ -240,7 +286,7 @@ use crate::reference::attention as plain_c;
 
 /// Stands where there is no plain C program, and is never called there.
 #[cfg(not(reference))]
-fn plain_c(_: &Call, _: &Inputs, _: &mut klaverdomp::Outputs) -> Option<klaverdomp::Done> {
+fn plain_c(_: &Call, _: &Inputs, _: &mut klaverdomp::Outputs) -> Option<Done> {
     None
 }
 
@@ -280,6 +326,22 @@ fn median(times: &[f64]) -> f64 {
     }
 }
 
+/// The ratio of two medians, and the ratios of single rounds from the 10th to the 90th in a hundred.
+fn ratio(times: &[f64], others: &[f64]) -> (String, String) {
+    let mut each: Vec<f64> = times.iter().zip(others).map(|(time, other)| time / other).collect();
+    each.sort_by(f64::total_cmp);
+    let spread = format!("[{:.2} - {:.2}]", each[each.len() / 10], each[each.len() - 1 - each.len() / 10]);
+    (format!("{:.2}", median(times) / median(others)), spread)
+}
+
+/// The median of the plain C program and the ratio to it; dashes where there is none.
+fn beside_plain_c(times: &[f64], c: Option<&Vec<f64>>) -> (String, (String, String)) {
+    match c {
+        Some(c) => (duration(median(c)), ratio(times, c)),
+        None => ("-".to_string(), ("-".to_string(), "-".to_string())),
+    }
+}
+
 fn duration(seconds: f64) -> String {
     match seconds {
         s if s >= 1.0 => format!("{s:.2} s"),
@@ -309,6 +371,36 @@ mod tests {
         assert_eq!(median(&[3.0, 1.0, 2.0]), 2.0);
         assert_eq!(median(&[4.0, 1.0, 2.0, 3.0]), 2.5);
         assert_eq!([2.5, 0.0025, 0.000_025].map(duration), ["2.50 s", "2.50 ms", "25.0 us"]);
+    }
+
+    #[test]
+    fn ratios_and_their_spread() {
+        let words = |ratio: &str, spread: &str| (ratio.to_string(), spread.to_string());
+        assert_eq!(ratio(&[1.0, 2.0, 6.0], &[4.0, 4.0, 4.0]), words("0.50", "[0.25 - 1.50]"));
+        let times: Vec<f64> = (0..20).map(f64::from).collect();
+        assert_eq!(ratio(&times, &[1.0; 20]), words("9.50", "[2.00 - 17.00]"));
+        assert_eq!(beside_plain_c(&[1.0], Some(&vec![2.0])), ("2.00 s".to_string(), words("0.50", "[0.50 - 0.50]")));
+        assert_eq!(beside_plain_c(&[1.0], None), ("-".to_string(), words("-", "-")));
+    }
+
+    #[test]
+    fn the_first_two_shapes_are_steps() {
+        assert_eq!(SHAPES.map(|shape| is_step(&shape.cached())), [true, true, false, false, false]);
+        for shape in &SHAPES[..2] {
+            let mut work = Work::new(shape.cached());
+            assert!(work.compare_with_step().is_ok());
+            // bits that differ are noticed
+            let other = |theirs: &mut Buffers| {
+                let done = step(&work.call, &work.step_inputs(), &mut theirs.lend_step()).ok();
+                theirs.present_value[0] = -theirs.present_value[0];
+                done
+            };
+            assert!(matches!(work.compare("", other), Err(Failure::Differs(_))));
+            assert!(matches!(work.compare("", |_| None), Err(Failure::Differs(_))));
+            *work.value.last_mut().unwrap() = f32::NAN;
+            let refusal = step(&work.call, &work.step_inputs(), &mut Buffers::new(&work.call).lend_step()).unwrap_err();
+            assert_eq!((refusal.number, refusal.tensor, refusal.index), (9, 4, work.value.len() as u64 - 1));
+        }
     }
 
     #[test]

@@ -2,7 +2,8 @@
 
 use crate::{Call, Form, Inputs, MaskKind, Outputs, Refusal};
 
-/// The refusal with the numbers and elements at fault, one sentence a line.
+/// The refusal with the numbers and elements at fault, one sentence a line. The tensors of a step are handed over by `Inputs::from`
+/// and `Outputs::from`.
 ///
 /// ```
 /// use klaverdomp::{attention, explain, Call, Inputs, Outputs};
@@ -32,6 +33,7 @@ pub fn explain(call: &Call, inputs: &Inputs, outputs: &Outputs, refusal: &Refusa
             3 => place(refusal, inputs.past_value),
             _ => place(refusal, inputs.value),
         },
+        10 => profile(call),
         _ => Vec::new(),
     };
     let mut words = refusal.to_string();
@@ -80,6 +82,32 @@ fn settings(call: &Call) -> Vec<String> {
     }
     if let Some(scale) = call.scale.filter(|scale| !(*scale > 0.0 && *scale <= 1024.0)) {
         faults.push(format!("the scale is {scale}"));
+    }
+    faults
+}
+
+fn profile(call: &Call) -> Vec<String> {
+    let mut faults = Vec::new();
+    if call.form != Form::Cached {
+        faults.push(format!("the form is {:?}, and a step is Cached", call.form));
+    }
+    if call.mask != MaskKind::None {
+        faults.push(format!("the mask is {:?}, and a step has None", call.mask));
+    }
+    if let Some(mode) = call.mode {
+        faults.push(format!("the score mode is {mode}, and a step has none"));
+    }
+    let numbers = [
+        ("rank", call.rank, 4),
+        ("causal flag", call.causal, 1),
+        ("batch", call.batches, 1),
+        ("query length", call.q_len, 1),
+        ("key length", call.k_len, 1),
+    ];
+    for (name, number, right) in numbers {
+        if number != right {
+            faults.push(format!("the {name} is {number}, and a step has {right}"));
+        }
     }
     faults
 }

@@ -4,7 +4,7 @@
 // elements as it says; `&mut` slices overlap nothing else; the library is proved to stay inside the slices it is lent, whatever
 // the numbers are, and keeps no pointer after it returns.
 
-use crate::{Inputs, Outputs};
+use crate::{Done, Inputs, Outputs, Refusal, StepInputs, StepOutputs};
 
 #[allow(unsafe_code)]
 extern "C" {
@@ -43,6 +43,33 @@ extern "C" {
         total: *mut u64,
         masked: *mut u64,
     ) -> u32;
+    fn klaverdomp_step_1(
+        record: *const u64,
+        record_len: usize,
+        scale: f32,
+        query: *const f32,
+        query_len: usize,
+        key: *const f32,
+        key_len: usize,
+        value: *const f32,
+        value_len: usize,
+        pastkey: *const f32,
+        pastkey_len: usize,
+        pastvalue: *const f32,
+        pastvalue_len: usize,
+        output: *mut f32,
+        output_len: usize,
+        presentkey: *mut f32,
+        presentkey_len: usize,
+        presentvalue: *mut f32,
+        presentvalue_len: usize,
+        work: *mut f32,
+        work_len: usize,
+        tensor: *mut u64,
+        index: *mut u64,
+        total: *mut u64,
+        masked: *mut u64,
+    ) -> u32;
     fn klaverdomp_exp_neg_1(d: f32, value: *mut f32) -> u32;
     fn klaverdomp_exp_neg_row_1(row: *mut f32, len: usize, largest: f32);
     fn klaverdomp_power_entry_1(f: u64, value: *mut f32) -> u32;
@@ -56,6 +83,15 @@ pub(crate) struct Answer {
     pub index: u64,
     pub total: u64,
     pub masked: u64,
+}
+
+impl Answer {
+    pub fn result(self) -> Result<Done, Refusal> {
+        match self.number {
+            0 => Ok(Done { total: self.total, masked_rows: self.masked }),
+            number => Err(Refusal { number, tensor: self.tensor, index: self.index }),
+        }
+    }
 }
 
 #[allow(unsafe_code)]
@@ -91,6 +127,42 @@ pub(crate) fn attention(record: &[u64; 18], scale: f32, inputs: &Inputs, outputs
             outputs.present_value.len(),
             outputs.scores.as_mut_ptr(),
             outputs.scores.len(),
+            outputs.work.as_mut_ptr(),
+            outputs.work.len(),
+            &mut tensor,
+            &mut index,
+            &mut total,
+            &mut masked,
+        )
+    };
+    Answer { number, tensor, index, total, masked }
+}
+
+#[allow(unsafe_code)]
+pub(crate) fn step(record: &[u64; 18], scale: f32, inputs: &StepInputs, outputs: &mut StepOutputs) -> Answer {
+    let (mut tensor, mut index, mut total, mut masked) = (0, 0, 0, 0);
+    // SAFETY: see the head of the file.
+    let number = unsafe {
+        klaverdomp_step_1(
+            record.as_ptr(),
+            record.len(),
+            scale,
+            inputs.query.as_ptr(),
+            inputs.query.len(),
+            inputs.key.as_ptr(),
+            inputs.key.len(),
+            inputs.value.as_ptr(),
+            inputs.value.len(),
+            inputs.past_key.as_ptr(),
+            inputs.past_key.len(),
+            inputs.past_value.as_ptr(),
+            inputs.past_value.len(),
+            outputs.output.as_mut_ptr(),
+            outputs.output.len(),
+            outputs.present_key.as_mut_ptr(),
+            outputs.present_key.len(),
+            outputs.present_value.as_mut_ptr(),
+            outputs.present_value.len(),
             outputs.work.as_mut_ptr(),
             outputs.work.len(),
             &mut tensor,

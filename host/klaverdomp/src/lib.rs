@@ -1,7 +1,8 @@
 //! Attention for speech recognition: ONNX Attention 24 in f32 with KV caches, over a static library that is proved bit for bit.
 //!
 //! A call is a record ([`Call`]), borrowed tensors to read ([`Inputs`]) and borrowed tensors to write ([`Outputs`]).
-//! [`attention`] either does the call or answers the first of nine refusals that applies, and then leaves every tensor as it was.
+//! [`attention`] either does the call or answers the first refusal that applies, and then leaves every tensor as it was.
+//! [`step`] is the same for decode steps of one position alone, and takes neither masks nor live counts nor scores.
 //! [`Session`] keeps the KV cache of a recording that comes in chunks.
 //!
 //! One query over two keys that are alike, so that each weighs a half:
@@ -39,6 +40,7 @@ mod explain;
 mod ffi;
 mod refusal;
 mod session;
+mod step;
 
 use std::collections::TryReserveError;
 
@@ -46,6 +48,7 @@ pub use call::{Call, Form, Lengths, MaskKind};
 pub use explain::explain;
 pub use refusal::Refusal;
 pub use session::{Session, Settings};
+pub use step::{is_step, step, StepInputs, StepOutputs};
 
 /// The tensors that a call reads. One that the call does not use is empty, as it is in `Inputs::default()`.
 #[derive(Clone, Copy, Debug, Default)]
@@ -130,6 +133,16 @@ impl Buffers {
             work: &mut self.work,
         }
     }
+
+    /// The four that a step writes.
+    pub fn lend_step(&mut self) -> StepOutputs<'_> {
+        StepOutputs {
+            output: &mut self.output,
+            present_key: &mut self.present_key,
+            present_value: &mut self.present_value,
+            work: &mut self.work,
+        }
+    }
 }
 
 fn zeros(len: usize) -> Result<Vec<f32>, TryReserveError> {
@@ -148,7 +161,7 @@ pub struct Done {
     pub masked_rows: u64,
 }
 
-/// Does the call, or answers the refusal of the lowest number that applies and changes nothing.
+/// Does the call, or answers the refusal of the lowest number, 1 to 9, that applies and changes nothing.
 ///
 /// A decode step after one past position, causal:
 ///
@@ -171,11 +184,7 @@ pub struct Done {
 /// # Ok::<(), klaverdomp::Refusal>(())
 /// ```
 pub fn attention(call: &Call, inputs: &Inputs, outputs: &mut Outputs) -> Result<Done, Refusal> {
-    let answer = ffi::attention(&call.record(), call.scale.unwrap_or(0.0), inputs, outputs);
-    match answer.number {
-        0 => Ok(Done { total: answer.total, masked_rows: answer.masked }),
-        number => Err(Refusal { number, tensor: answer.tensor, index: answer.index }),
-    }
+    ffi::attention(&call.record(), call.scale.unwrap_or(0.0), inputs, outputs).result()
 }
 
 /// Asks the operator about the record and the lengths of the inputs, before there are outputs: the refusal of number 1 to 5 that
@@ -188,9 +197,14 @@ pub fn attention(call: &Call, inputs: &Inputs, outputs: &mut Outputs) -> Result<
 /// assert_eq!(check(&call, &Inputs::default()).unwrap_err().number, 1);
 /// ```
 pub fn check(call: &Call, inputs: &Inputs) -> Result<(), Refusal> {
-    // no work row is empty, so a call without outputs is always refused, by 6 where 1 to 5 do not apply
-    match attention(call, inputs, &mut Outputs::default()) {
-        Err(refusal) if refusal.number < 6 => Err(refusal),
+    before_outputs(attention(call, inputs, &mut Outputs::default()))
+}
+
+/// The refusal of a call without outputs, other than the 6 that is for their lack. No work row is empty, so such a call is always
+/// refused, and by none that is tested after 6.
+fn before_outputs(answer: Result<Done, Refusal>) -> Result<(), Refusal> {
+    match answer {
+        Err(refusal) if refusal.number != 6 => Err(refusal),
         _ => Ok(()),
     }
 }

@@ -3,10 +3,11 @@
 use std::error::Error;
 use std::fmt;
 
-/// Why a call is not done: the lowest number that applies, and for 7 to 9 the place of the first element at fault.
+/// Why a call is not done: the lowest number that applies, and for 7 to 9 the place of the first element at fault. Only
+/// [`crate::step`] gives 10, and tests it before 1.
 #[derive(Clone, Copy, Debug, PartialEq, Eq)]
 pub struct Refusal {
-    /// 1 to 9.
+    /// 1 to 10.
     pub number: u32,
     /// For 9: 0 query, 1 past key, 2 key, 3 past value, 4 value. Else 0.
     pub tensor: u64,
@@ -50,6 +51,9 @@ impl fmt::Display for Refusal {
                 let tensor = self.tensor_name().unwrap_or("unknown tensor");
                 write!(f, "element {index} of the {tensor} is not a number of magnitude at most 65,536")
             }
+            10 => f.write_str(
+                "the call is not a step: cached, causal, rank 4, one batch, one query and one key, without mask and scores",
+            ),
             _ => f.write_str("unknown"),
         }
     }

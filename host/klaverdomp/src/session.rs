@@ -1,6 +1,6 @@
 //! The KV cache of a recording that comes in chunks.
 
-use crate::{attention, check, Call, Done, Inputs, Outputs, Refusal};
+use crate::{attention, before_outputs, is_step, step, Call, Done, Refusal, StepInputs, StepOutputs};
 
 /// What stays the same through a session.
 ///
@@ -87,6 +87,31 @@ pub struct Session {
     work: Vec<f32>,
 }
 
+/// The entries that a chunk may go through. No chunk of a session has a mask or scores, so a step's tensors are those of both.
+#[derive(Clone, Copy)]
+enum Entry {
+    General,
+    Step,
+}
+
+impl Entry {
+    /// The step entry for the calls that it takes.
+    fn of(call: &Call) -> Entry {
+        if is_step(call) {
+            Entry::Step
+        } else {
+            Entry::General
+        }
+    }
+
+    fn answer(self, call: &Call, inputs: StepInputs, mut outputs: StepOutputs) -> Result<Done, Refusal> {
+        match self {
+            Entry::General => attention(call, &inputs.into(), &mut outputs.into()),
+            Entry::Step => step(call, &inputs, &mut outputs),
+        }
+    }
+}
+
 /// Two buffers that change places: one holds the past, the call writes the present into the other.
 #[derive(Clone, Debug, Default)]
 struct Cache {
@@ -102,31 +127,60 @@ impl Session {
 
     /// One chunk of one or more positions: its queries, keys and values in the layout of the session's rank, and its output.
     ///
-    /// How many positions there are is read from the length of `key`. A refused chunk changes neither the session nor `out`.
+    /// How many positions there are is read from the length of `key`. A chunk that [`step`] takes goes through it, any other through
+    /// [`attention`]. A refused chunk changes neither the session nor `out`.
     pub fn append(&mut self, query: &[f32], key: &[f32], value: &[f32], out: &mut [f32]) -> Result<Done, Refusal> {
+        self.feed(Entry::of, query, key, value, out)
+    }
+
+    /// A chunk of one position through [`step`]. Refusal 10 where the chunk has another number of positions, or the session another
+    /// rank than 4 or another number of batches than 1; for the rest as [`Session::append`].
+    ///
+    /// ```
+    /// use klaverdomp::{Session, Settings};
+    ///
+    /// let mut session = Session::new(Settings::new(1, 1, 1).with_scale(1.0));
+    /// let mut out = [0.0; 2];
+    /// session.append(&[1.0, 1.0], &[1.0, 1.0], &[6.0, 12.0], &mut out)?;
+    /// session.step(&[1.0], &[1.0], &[3.0], &mut out[..1])?;
+    /// assert_eq!((session.len(), out[0]), (3, 7.0));
+    /// assert_eq!(session.step(&[1.0; 2], &[1.0; 2], &[0.0; 2], &mut out).unwrap_err().number, 10);
+    /// # Ok::<(), klaverdomp::Refusal>(())
+    /// ```
+    pub fn step(&mut self, query: &[f32], key: &[f32], value: &[f32], out: &mut [f32]) -> Result<Done, Refusal> {
+        self.feed(|_| Entry::Step, query, key, value, out)
+    }
+
+    /// The chunk through the entry that is chosen for its call.
+    fn feed(
+        &mut self,
+        choose: fn(&Call) -> Entry,
+        query: &[f32],
+        key: &[f32],
+        value: &[f32],
+        out: &mut [f32],
+    ) -> Result<Done, Refusal> {
         let row = self.settings.call(0, 1).lengths().key;
         let positions = key.len().checked_div(row).unwrap_or(0);
         let call = self.settings.call(self.len, positions as u64);
-        let lengths = call.lengths();
-        let inputs = Inputs {
+        let (entry, lengths) = (choose(&call), call.lengths());
+        let inputs = StepInputs {
             query,
             key,
             value,
             past_key: &self.keys.past[..lengths.past_key],
             past_value: &self.values.past[..lengths.past_value],
-            ..Inputs::default()
         };
-        check(&call, &inputs)?;
+        before_outputs(entry.answer(&call, inputs, StepOutputs::default()))?;
         // the call is within the limits, and so are the lengths that room is made for
         let full = self.settings.call(0, LONGEST).lengths();
-        let outputs = &mut Outputs {
+        let outputs = StepOutputs {
             output: out,
             present_key: room(&mut self.keys.present, lengths.present_key, full.present_key),
             present_value: room(&mut self.values.present, lengths.present_value, full.present_value),
-            scores: &mut [],
             work: room(&mut self.work, lengths.work, full.work),
         };
-        let done = attention(&call, &inputs, outputs)?;
+        let done = entry.answer(&call, inputs, outputs)?;
         self.keys.change_places();
         self.values.change_places();
         self.len = done.total;

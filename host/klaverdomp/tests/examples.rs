@@ -3,7 +3,7 @@
 mod common;
 
 use common::{accepted, bits, refused};
-use klaverdomp::{check, default_scale, exp_neg, Call, Done, Inputs};
+use klaverdomp::{check, default_scale, exp_neg, step, Buffers, Call, Done, Inputs, StepInputs};
 
 fn plain(q_len: u64, k_len: u64) -> Call {
     Call::plain(q_len, k_len).with_scale(1.0)
@@ -66,6 +66,21 @@ fn e_cached_causal() {
     assert_eq!(bits(&buffers.output), bits(&[9.0]));
     assert_eq!(bits(&buffers.present_key), bits(&[1.0, 1.0]));
     assert_eq!(bits(&buffers.present_value), bits(&[6.0, 12.0]));
+}
+
+#[test]
+fn e_through_the_step_entry() {
+    let inputs = StepInputs { query: &[1.0], key: &[1.0], value: &[12.0], past_key: &[1.0], past_value: &[6.0] };
+    // the mask's dimensions are not looked at
+    for mask_dims in [[1; 4], [0, 3, 2049, u64::MAX]] {
+        let call = Call { mask_dims, ..Call::cached(1, 1).with_scale(1.0).with_causal() };
+        let mut buffers = Buffers::new(&call);
+        assert_eq!(step(&call, &inputs, &mut buffers.lend_step()), Ok(Done { total: 2, masked_rows: 0 }));
+        assert_eq!(bits(&buffers.output), bits(&[9.0]));
+        assert_eq!(bits(&buffers.present_key), bits(&[1.0, 1.0]));
+        assert_eq!(bits(&buffers.present_value), bits(&[6.0, 12.0]));
+        assert_eq!(bits(&buffers.work), bits(&[0.5, 0.5]));
+    }
 }
 
 #[test]

@@ -3,7 +3,9 @@
 mod common;
 
 use common::{bits, refused};
-use klaverdomp::{attention, explain, Buffers, Call, Form, Inputs, Outputs};
+use klaverdomp::{
+    attention, explain, is_step, step, Buffers, Call, Form, Inputs, MaskKind, Outputs, Refusal, StepInputs, StepOutputs,
+};
 
 /// A call of two batches with every kind of tensor that a cached call can have, and its inputs.
 fn call() -> Call {
@@ -21,6 +23,107 @@ const INPUTS: Inputs = Inputs {
     live: &[],
 };
 
+/// A step of two query heads over one key head after two positions, and its inputs.
+fn step_call() -> Call {
+    Call::cached(2, 1).with_heads(2, 1).with_causal()
+}
+
+const STEP_INPUTS: StepInputs =
+    StepInputs { query: &[1.0, 2.0], key: &[1.0], value: &[1.0], past_key: &[1.0, 2.0], past_value: &[1.0, 2.0] };
+
+/// Bits that differ from each other, payloads of NaNs among them.
+fn pattern(len: usize) -> Vec<f32> {
+    (0..len).map(|i| f32::from_bits(0x7FA0_0001 + i as u32 * 0x0101_0101)).collect()
+}
+
+/// The refusal of a step that lends outputs of the right lengths, each of which keeps its bits.
+fn step_refused(call: &Call, inputs: &StepInputs) -> Refusal {
+    let lengths = step_call().lengths();
+    let lent = [lengths.output, lengths.present_key, lengths.present_value, lengths.work].map(pattern);
+    let [mut output, mut present_key, mut present_value, mut work] = lent.clone();
+    let mut outputs =
+        StepOutputs { output: &mut output, present_key: &mut present_key, present_value: &mut present_value, work: &mut work };
+    let refusal = step(call, inputs, &mut outputs).expect_err("the step is refused");
+    for (after, lent) in [output, present_key, present_value, work].iter().zip(&lent) {
+        assert_eq!(bits(after), bits(lent));
+    }
+    refusal
+}
+
+/// Calls of which one number is not of the step profile, and the words for it.
+fn off_profile() -> Vec<(Call, String)> {
+    let profile = step_call();
+    let mut calls = Vec::new();
+    for form in [Form::Plain, Form::Counted] {
+        calls.push((Call { form, ..profile }, format!("the form is {form:?}, and a step is Cached")));
+    }
+    for mask in [MaskKind::Boolean, MaskKind::Float] {
+        calls.push((Call { mask, ..profile }, format!("the mask is {mask:?}, and a step has None")));
+    }
+    for mode in [0, 3, 4, 255, u64::MAX] {
+        calls.push((profile.with_scores(mode), format!("the score mode is {mode}, and a step has none")));
+    }
+    for rank in [0, 3, 5, 260, u64::MAX] {
+        calls.push((profile.with_rank(rank), format!("the rank is {rank}, and a step has 4")));
+    }
+    for number in [0, 2, 3, 257, 3000, (1 << 32) + 1, u64::MAX] {
+        calls.push((Call { causal: number, ..profile }, format!("the causal flag is {number}, and a step has 1")));
+        calls.push((Call { batches: number, ..profile }, format!("the batch is {number}, and a step has 1")));
+        calls.push((Call { q_len: number, ..profile }, format!("the query length is {number}, and a step has 1")));
+        calls.push((Call { k_len: number, ..profile }, format!("the key length is {number}, and a step has 1")));
+    }
+    calls
+}
+
+#[test]
+fn a_call_off_the_step_profile_is_refusal_10() {
+    let ten = Refusal { number: 10, tensor: 0, index: 0 };
+    for (call, words) in off_profile() {
+        assert!(!is_step(&call), "{call:?}");
+        assert_eq!(step_refused(&call, &STEP_INPUTS), ten, "{call:?}");
+        let text = explain(&call, &STEP_INPUTS.into(), &Outputs::default(), &ten);
+        assert_eq!(text, format!("{ten}\n  {words}"));
+        // 10 comes before every other refusal that applies
+        let others = [
+            (call.with_heads(0, 33), STEP_INPUTS),
+            (Call { past: u64::MAX, ..call.with_size(300) }, STEP_INPUTS),
+            (call.with_heads(2, 3), STEP_INPUTS),
+            (call.with_scale(f32::NAN), STEP_INPUTS),
+            (call, StepInputs::default()),
+            (call, StepInputs { query: &[1.0, f32::NAN], ..STEP_INPUTS }),
+        ];
+        for (call, inputs) in others {
+            assert_eq!(step_refused(&call, &inputs), ten, "{call:?}");
+        }
+    }
+}
+
+#[test]
+fn a_step_is_refused_as_the_general_entry_refuses() {
+    let nan = &[1.0, f32::NAN];
+    let cases = [
+        (step_call().with_heads(0, 1), STEP_INPUTS, (1, 0, 0)),
+        (step_call().with_size(257), STEP_INPUTS, (1, 0, 0)),
+        (Call { past: 2048, ..step_call() }, STEP_INPUTS, (1, 0, 0)),
+        (Call { past: u64::MAX, ..step_call() }, STEP_INPUTS, (1, 0, 0)),
+        (step_call().with_heads(2, 3), STEP_INPUTS, (2, 0, 0)),
+        (step_call().with_scale(0.0), STEP_INPUTS, (3, 0, 0)),
+        (step_call(), StepInputs { past_value: &[1.0], ..STEP_INPUTS }, (5, 0, 0)),
+        (step_call().with_value_size(2), StepInputs { value: &[1.0; 2], past_value: &[1.0; 4], ..STEP_INPUTS }, (6, 0, 0)),
+        (step_call(), StepInputs { query: nan, ..STEP_INPUTS }, (9, 0, 1)),
+        (step_call(), StepInputs { past_key: nan, ..STEP_INPUTS }, (9, 1, 1)),
+        (step_call(), StepInputs { key: &[65_537.0], past_value: nan, ..STEP_INPUTS }, (9, 2, 0)),
+        (step_call(), StepInputs { past_value: nan, value: &[f32::NAN], ..STEP_INPUTS }, (9, 3, 1)),
+        (step_call(), StepInputs { value: &[f32::NEG_INFINITY], ..STEP_INPUTS }, (9, 4, 0)),
+    ];
+    for (call, inputs, (number, tensor, index)) in cases {
+        let wanted = Refusal { number, tensor, index };
+        assert!(is_step(&call), "{call:?}");
+        assert_eq!(step_refused(&call, &inputs), wanted, "{call:?}");
+        assert_eq!(attention(&call, &inputs.into(), &mut Buffers::new(&step_call()).lend()), Err(wanted), "{call:?}");
+    }
+}
+
 #[test]
 fn each_refusal_in_words() {
     let cases: [(Call, Inputs, &str); 12] = [
@@ -30,7 +133,7 @@ fn each_refusal_in_words() {
         (call().with_float_mask([1, 1, 1, 2]), INPUTS, "refusal 4: a mask dimension is neither 1 nor its full size"),
         (call(), Inputs { live: &[1, 1], ..INPUTS }, "refusal 5: an input tensor has the wrong length"),
         (
-            Call { form: Form::Counted, past: 0, mask: klaverdomp::MaskKind::None, ..call() },
+            Call { form: Form::Counted, past: 0, mask: MaskKind::None, ..call() },
             Inputs { float_mask: &[], past_key: &[], past_value: &[], live: &[1, 2], ..INPUTS },
             "refusal 7: live count 1 is below 0 or above the total length",
         ),
@@ -55,6 +158,8 @@ fn each_refusal_in_words() {
     }
     let refusal = attention(&call(), &INPUTS, &mut Outputs::default()).unwrap_err();
     assert!(refusal.to_string().starts_with("refusal 6: the output, a present cache, the scores or the work row"));
+    let profile = step_refused(&Call::plain(1, 1), &STEP_INPUTS);
+    assert!(profile.to_string().starts_with("refusal 10: the call is not a step: cached, causal, rank 4, one batch"));
     let error: Box<dyn std::error::Error> = Box::new(refusal);
     assert_eq!(error.to_string(), refusal.to_string());
 }
@@ -86,8 +191,6 @@ fn explanations_name_what_is_wrong() {
 
 #[test]
 fn a_refused_call_keeps_every_bit_of_the_outputs() {
-    // payloads of NaNs among them
-    let pattern = |n: usize| -> Vec<f32> { (0..n).map(|i| f32::from_bits(0x7FA0_0001 + i as u32 * 0x0101_0101)).collect() };
     let lengths = call().lengths();
     let lent = [lengths.output, lengths.present_key, lengths.present_value, lengths.scores, lengths.work].map(pattern);
     let [mut output, mut present_key, mut present_value, mut scores, mut work] = lent.clone();

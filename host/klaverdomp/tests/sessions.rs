@@ -3,7 +3,7 @@
 mod common;
 
 use common::{accepted, bits, Generator};
-use klaverdomp::{Call, Done, Inputs, Session, Settings};
+use klaverdomp::{Call, Done, Inputs, Refusal, Session, Settings};
 
 /// All positions of a recording, and where the rows of a position stand.
 struct Recording {
@@ -55,14 +55,22 @@ fn cut(tensor: &[f32], s: &Settings, heads: u64, size: u64, positions: u64, star
     (0..outer).flat_map(part).copied().collect()
 }
 
+/// `Session::append` or `Session::step`.
+type Feed = fn(&mut Session, &[f32], &[f32], &[f32], &mut [f32]) -> Result<Done, Refusal>;
+
 /// The outputs of the chunks of these lengths, each held to the plain call's.
 fn agrees(recording: &Recording, whole: &[f32], chunks: &[u64], session: &mut Session) {
+    let chunks: Vec<(u64, Feed)> = chunks.iter().map(|len| (*len, Session::append as Feed)).collect();
+    agrees_fed(recording, whole, &chunks, session);
+}
+
+fn agrees_fed(recording: &Recording, whole: &[f32], chunks: &[(u64, Feed)], session: &mut Session) {
     let s = &recording.settings;
     let mut start = 0;
-    for len in chunks {
+    for (len, feed) in chunks {
         let [query, key, value] = recording.chunk(start, *len);
         let mut out = vec![f32::NAN; (s.batches * s.q_heads * len * s.v_size) as usize];
-        let done = session.append(&query, &key, &value, &mut out).expect("the chunk is accepted");
+        let done = feed(session, &query, &key, &value, &mut out).expect("the chunk is accepted");
         assert_eq!(done, Done { total: start + len, masked_rows: 0 });
         let expected = cut(whole, s, s.q_heads, s.v_size, recording.positions, start, *len);
         assert_eq!(bits(&out), bits(&expected), "chunk of {len} positions at {start}");
@@ -101,6 +109,81 @@ fn every_cut_has_the_bits_of_one_plain_call() {
                 }
             }
         }
+    }
+}
+
+#[test]
+fn steps_have_the_bits_of_one_plain_call() {
+    let mut generator = Generator::new(13);
+    for (q_heads, kv_heads, size, v_size) in [(1, 1, 1, 1), (4, 2, 5, 3), (6, 1, 16, 16), (2, 2, 8, 9)] {
+        let settings = Settings::new(q_heads, kv_heads, size).with_value_size(v_size);
+        for settings in [settings, settings.with_scale(0.7)] {
+            let recording = Recording::new(settings, 23, &mut generator);
+            let whole = recording.whole();
+            let mut session = Session::new(settings);
+            let all: Vec<(u64, Feed)> = vec![(1, Session::step); 23];
+            let after_prefill = [vec![(9, Session::append as Feed)], vec![(1, Session::step); 14]].concat();
+            let mut cuts = vec![all, after_prefill];
+            for _ in 0..6 {
+                let cut = [random_cut(20, &mut generator), vec![1; 3]].concat();
+                let mut fed = |len: u64| -> (u64, Feed) {
+                    let stepped = len == 1 && generator.below(3) > 0;
+                    (len, if stepped { Session::step } else { Session::append })
+                };
+                cuts.push(cut.into_iter().map(&mut fed).collect());
+            }
+            for cut in cuts {
+                agrees_fed(&recording, &whole, &cut, &mut session);
+                assert_eq!((bits(session.keys()), bits(session.values())), (bits(&recording.key), bits(&recording.value)));
+                session.clear();
+            }
+        }
+    }
+}
+
+#[test]
+fn a_refused_step_leaves_the_session() {
+    let settings = Settings::new(4, 2, 8);
+    let recording = Recording::new(settings, 8, &mut Generator::new(6));
+    let whole = recording.whole();
+    let mut session = Session::new(settings);
+    agrees(&recording, &whole, &[6], &mut session);
+    let (keys, values) = (session.keys().to_vec(), session.values().to_vec());
+
+    let [query, key, value] = recording.chunk(6, 1);
+    let [two_queries, two_keys, two_values] = recording.chunk(6, 2);
+    let mut bad_key = key.clone();
+    bad_key[9] = f32::NAN;
+    let mut out = vec![0.25; 2 * query.len()];
+    let mut refuse = |query: &[f32], key: &[f32], value: &[f32], len: usize| {
+        let refusal = session.step(query, key, value, &mut out[..len]).unwrap_err();
+        (refusal.number, refusal.tensor, refusal.index)
+    };
+    assert_eq!(refuse(&two_queries, &two_keys, &two_values, 64), (10, 0, 0));
+    assert_eq!(refuse(&[], &two_keys, &[f32::NAN], 0), (10, 0, 0));
+    assert_eq!(refuse(&query, &[], &value, 32), (10, 0, 0));
+    assert_eq!(refuse(&query[1..], &key, &value, 32), (5, 0, 0));
+    assert_eq!(refuse(&query, &key, &value, 31), (6, 0, 0));
+    assert_eq!(refuse(&query, &bad_key, &value, 32), (9, 2, 9));
+    assert_eq!(session.len(), 6);
+    assert_eq!((bits(session.keys()), bits(session.values())), (bits(&keys), bits(&values)));
+    assert!(out.iter().all(|x| *x == 0.25));
+
+    // and the recording goes on as if nothing had been there
+    session.step(&query, &key, &value, &mut out[..32]).unwrap();
+    assert_eq!(bits(&out[..32]), bits(&cut(&whole, &settings, 4, 8, 8, 6, 1)));
+}
+
+#[test]
+fn a_session_of_other_settings_is_fed_by_append_alone() {
+    for settings in [Settings::new(2, 1, 3).with_rank(3), Settings::new(2, 1, 3).with_batches(2)] {
+        let recording = Recording::new(settings, 5, &mut Generator::new(2));
+        let mut session = Session::new(settings);
+        let [query, key, value] = recording.chunk(0, 1);
+        let mut out = vec![0.25; query.len()];
+        assert_eq!(session.step(&query, &key, &value, &mut out).unwrap_err().number, 10);
+        assert!(session.is_empty() && out.iter().all(|x| *x == 0.25));
+        agrees(&recording, &recording.whole(), &[1, 2, 1, 1], &mut session);
     }
 }
 
@@ -166,16 +249,22 @@ fn a_recording_ends_at_2048_positions() {
     assert_eq!(session.append(&ones[..2], &ones[..2], &ones[..2], &mut out[..2]).unwrap_err().number, 1);
     session.append(&ones[..1], &ones[..1], &ones[..1], &mut out[..1]).unwrap();
     assert_eq!(session.len(), 2048);
-    assert_eq!(session.append(&ones[..1], &ones[..1], &ones[..1], &mut out[..1]).unwrap_err().number, 1);
+    for feed in [Session::append as Feed, Session::step] {
+        assert_eq!(feed(&mut session, &ones[..1], &ones[..1], &ones[..1], &mut out[..1]).unwrap_err().number, 1);
+    }
 }
 
 #[test]
 fn settings_of_any_numbers_are_refused_in_order() {
     let mut out = [0.0];
-    let mut first = |settings| Session::new(settings).append(&[1.0], &[1.0], &[1.0], &mut out).unwrap_err().number;
-    assert_eq!(first(Settings::new(0, 0, 0)), 1);
-    assert_eq!(first(Settings::new(u64::MAX, u64::MAX, u64::MAX)), 1);
-    assert_eq!(first(Settings::new(1, 2, 1).with_batches(u64::MAX)), 1);
-    assert_eq!(first(Settings::new(3, 1, 1).with_rank(5)), 3);
-    assert_eq!(first(Settings::new(1, 1, 1).with_scale(0.0)), 3);
+    let mut first = |settings| {
+        [Session::append as Feed, Session::step]
+            .map(|feed| feed(&mut Session::new(settings), &[1.0], &[1.0], &[1.0], &mut out).unwrap_err().number)
+    };
+    assert_eq!(first(Settings::new(0, 0, 0)), [1, 10]);
+    assert_eq!(first(Settings::new(u64::MAX, u64::MAX, u64::MAX)), [1, 10]);
+    assert_eq!(first(Settings::new(1, 2, 1).with_batches(u64::MAX)), [1, 10]);
+    assert_eq!(first(Settings::new(3, 1, 1).with_rank(5)), [3, 10]);
+    assert_eq!(first(Settings::new(33, 1, 1)), [1, 1]);
+    assert_eq!(first(Settings::new(1, 1, 1).with_scale(0.0)), [3, 3]);
 }
