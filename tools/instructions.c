@@ -23,6 +23,11 @@ static float *tensor(size_t len)
     return t;
 }
 
+static int equal(const float *a, const float *b, size_t len)
+{
+    return memcmp(a, b, len * sizeof *a) == 0;
+}
+
 int main(int argc, char **argv)
 {
     if (argc != 7) return fprintf(stderr, "usage: instructions B Hq Hkv P S D\n"), 2;
@@ -54,8 +59,7 @@ int main(int argc, char **argv)
             .work = w2, .work_len = T,
         };
         klaverdomp_answer step = klaverdomp_step(&call, &st);
-        same = step.refusal == 0 && !memcmp(y, y2, nq * sizeof *y) && !memcmp(ck, ck2, nc * sizeof *y)
-            && !memcmp(cv, cv2, nc * sizeof *y) && !memcmp(w, w2, T * sizeof *y);
+        same = step.refusal == 0 && equal(y, y2, nq) && equal(ck, ck2, nc) && equal(cv, cv2, nc) && equal(w, w2, T);
     }
 
     struct reference_call rc = {FORM_CACHED, MASK_NONE, SCALE_ABSENT, SCORES_NONE, 4, 1, B, Hq, Hkv, S, S, P, D, D, {0}, 0.0f};
@@ -64,8 +68,8 @@ int main(int argc, char **argv)
     struct reference_answer theirs;
     reference_attention(&rc, &in, &out, &theirs);
 
-    same = same && ours.refusal == 0 && theirs.refusal == 0 && !memcmp(y, y2, nq * sizeof *y) && !memcmp(ck, ck2, nc * sizeof *y)
-        && !memcmp(cv, cv2, nc * sizeof *y) && !memcmp(w, w2, T * sizeof *y);
+    same = same && ours.refusal == 0 && theirs.refusal == 0;
+    same = same && equal(y, y2, nq) && equal(ck, ck2, nc) && equal(cv, cv2, nc) && equal(w, w2, T);
     if (!same) return fprintf(stderr, "they differ\n"), 1;
     return 0;
 }

@@ -12,7 +12,7 @@ use Rattle.call.specs.declared.Verdict.{Verdict}
 use Rattle.call.specs.declared.Verdict.the-variants.{Accepted, Refused}
 use Rattle.call.specs.Answers.{reportOf}
 use Rattle.call.specs.Profile.{Entry, general, step, takes}
-use Rattle.call.specs.Tensors.{Inputs, Outputs, inputsOf, outputsOf}
+use Rattle.call.specs.Tensors.{Inputs, Outputs}
 use Rattle.call.specs.Refusals.{verdictOf}
 use Rattle.call.specs.Applies.{appliesAt, FirstAt}
 use Rattle.call.proofs.Lowest.{AtFirst, refused-not-zero, first-place}
@@ -21,7 +21,7 @@ use Rattle.attention.specs.Outcomes.{Outcome, outcomeOf, acceptedOf}
 use Rattle.attention.specs.Entries.{outcomeAt}
 use Rattle.attention.proofs.Outcome.{refused-outcome, accepted-outcome}
 use Rattle.attention.proofs.Entries.{taken-outcome, not-taken-outcome}
-use Rattle.sequence.specs.Chunks.{Chunk, State, start, lentTo, chunkCall, chunkOutcome, nextState, stateAfter}
+use Rattle.sequence.specs.Chunks.{Chunk, State, start, inputsAt, outputsAt, chunkCall, chunkOutcome, nextState, stateAfter}
 use Rattle.sequence.specs.Demand.{Demand3}
 use Rattle.sequence.proofs.Theorem.{demand3}
 use Rattle.demands.specs.Demands.{Demand1, Demand2, Programs, Meets, chunkAt, chunkBy, stateBy}
@@ -103,22 +103,16 @@ module _ (run : Programs) (meets : Meets run) (s : Call) where
   unfolding chunkOutcome
   chunk-by st r = go (r .entry) refl
     where
-      inputs : Entry → Inputs
-      inputs e = inputsOf (r .query) (r .key) (r .value) (lentTo e (r .boolMask)) (lentTo e (r .floatMask)) (st .key) (st .value) (lentTo e (r .live))
-
-      outputs : Entry → Outputs
-      outputs e = outputsOf (r .lent .output) (r .lent .presentKey) (r .lent .presentValue) (lentTo e (r .lent .scores)) (r .lent .work)
-
-      go : (e : Entry) → r .entry ≡ e → chunkAt run (r .entry) s st r ≡ outcomeAt (r .entry) (chunkCall s (st .past) r) (inputs (r .entry)) (outputs (r .entry))
+      go : (e : Entry) → r .entry ≡ e → chunkAt run (r .entry) s st r ≡ outcomeAt (r .entry) (chunkCall s (st .past) r) (inputsAt (r .entry) st r) (outputsAt (r .entry) r)
       go general h =
           ap (λ (e : Entry). chunkAt run e s st r) h
           ∙ meets .attention _ _ _
-          ∙ ap (λ (e : Entry). outcomeAt general (chunkCall s (st .past) r) (inputs e) (outputs e)) h
-          ∙ sym (ap (λ (e : Entry). outcomeAt e (chunkCall s (st .past) r) (inputs e) (outputs e)) h)
+          ∙ ap (λ (e : Entry). outcomeAt general (chunkCall s (st .past) r) (inputsAt e st r) (outputsAt e r)) h
+          ∙ sym (ap (λ (e : Entry). outcomeAt e (chunkCall s (st .past) r) (inputsAt e st r) (outputsAt e r)) h)
       go step h =
           ap (λ (e : Entry). chunkAt run e s st r) h
           ∙ meets .step _ _ _ _ _ _ _ _ _ _
-          ∙ sym (ap (λ (e : Entry). outcomeAt e (chunkCall s (st .past) r) (inputs e) (outputs e)) h)
+          ∙ sym (ap (λ (e : Entry). outcomeAt e (chunkCall s (st .past) r) (inputsAt e st r) (outputsAt e r)) h)
 
   -- and so has the state after every sequence of chunks
   pub state-by : (st : State) (chunks : List Chunk) → stateBy run s st chunks ≡ stateAfter s st chunks

@@ -34,11 +34,6 @@ pub record Chunk : Type 0 where
   pub live : List ℤ
   pub lent : Outputs
 
--- a tensor that the general entry alone is lent: masks, live counts and scores
-abbrev pub lentTo : {A : Type 0} → Entry → List A → List A
-lentTo general t = t
-lentTo step t = []
-
 -- Sq and Sk
 abbrev pub lengthOf : Chunk → ℕ
 lengthOf r = suc (r .more)
@@ -57,21 +52,33 @@ start = record { past = 0; key = []; value = [] }
 abbrev pub chunkCall : Call → ℕ → Chunk → Call
 chunkCall s past r = causalCall s Cached past (lengthOf r)
 
-abbrev pub chunkInputs : State → Chunk → Inputs
-chunkInputs st r = record {
+-- a tensor that the general entry alone is lent: masks, live counts and scores
+abbrev pub lentTo : {A : Type 0} → Entry → List A → List A
+lentTo general t = t
+lentTo step t = []
+
+-- what an entry is lent of a chunk's tensors
+abbrev pub inputsAt : Entry → State → Chunk → Inputs
+inputsAt e st r = record {
   query = r .query;
   key = r .key;
   value = r .value;
-  boolMask = lentTo (r .entry) (r .boolMask);
-  floatMask = lentTo (r .entry) (r .floatMask);
+  boolMask = lentTo e (r .boolMask);
+  floatMask = lentTo e (r .floatMask);
   pastKey = st .key;
   pastValue = st .value;
-  live = lentTo (r .entry) (r .live);
+  live = lentTo e (r .live);
 }
 
--- the tensors that it lends for writing
+abbrev pub outputsAt : Entry → Chunk → Outputs
+outputsAt e r = outputsOf (r .lent .output) (r .lent .presentKey) (r .lent .presentValue) (lentTo e (r .lent .scores)) (r .lent .work)
+
+-- what a chunk lends: the tensors that are read, and those for writing
+abbrev pub chunkInputs : State → Chunk → Inputs
+chunkInputs st r = inputsAt (r .entry) st r
+
 abbrev pub lentOf : Chunk → Outputs
-lentOf r = outputsOf (r .lent .output) (r .lent .presentKey) (r .lent .presentValue) (lentTo (r .entry) (r .lent .scores)) (r .lent .work)
+lentOf r = outputsAt (r .entry) r
 
 unfoldable pub chunkOutcome : Call → State → Chunk → Outcome
 unfolding attentionOf stepOf
