@@ -1,7 +1,7 @@
 /* A plain f32 attention operator that does every operation in the order of the scope document.
  *
- * It is written from that document alone and shares nothing with the library; the differential tests hold the two
- * to the same bits, and the benchmark times the library against it. Compile with
+ * It is written from that document and the change requests alone and shares nothing with the library; the differential
+ * tests hold the two to the same bits, and the benchmark times the library against it. Compile with
  *   gcc -O2 (or -O3) -ffp-contract=off -msse2 -mfpmath=sse
  * so that each f32 operation is rounded once and no product is fused with a sum.
  */
