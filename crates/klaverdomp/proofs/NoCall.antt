@@ -3,7 +3,7 @@ use mathlib.Core.Path.{_≡_, refl}
 use mathlib.Core.List.{List}
 use Prim.Native.Nat.{ℕ, _<_}
 use native.Mathlib.Omega.{arith}
-use mathlib.Core.Bool.{Bool, true, false, _&&_}
+use mathlib.Core.Bool.{Bool, true, false}
 use lib.ListN.{length}
 use lib.Ieee.{Float}
 use borrow.Author.Tests.{ne-eqb}
@@ -17,6 +17,7 @@ use Rattle.call.specs.Limits.{limitsHold, groupsHold, settingsHold, maskShapeHo
 use Rattle.call.specs.Profile.{profileHolds}
 use Rattle.call.specs.Refusals.{unless, _then_, recordVerdict, lengthsVerdict, cellsVerdict, elementsVerdict, verdictOf}
 use Rattle.call.specs.Tensors.{Inputs, Outputs}
+use Rattle.contents.proofs.Groups.{and-false}
 use Rattle.attention.specs.Outcomes.{outcomeOf}
 use Rattle.attention.specs.Entries.{stepOf}
 use Rattle.attention.proofs.Entries.{step-other}
@@ -31,10 +32,6 @@ refused-by-third : (a b : Bool) (v w : Verdict) → (unless a Limits then unless
 refused-by-third true true v w = refl
 refused-by-third true false v w = refl
 refused-by-third false b v w = refl
-
-and-false : (a : Bool) → a && false ≡ false
-and-false true = refl
-and-false false = refl
 
 module _ (numbers : List ℕ) (scale : Float) where
   -- where a code names no form or no mask kind the rank is 0

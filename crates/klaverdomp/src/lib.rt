@@ -275,12 +275,12 @@ pub extern "C" fn klaverdomp_step_1<'a>(
         presentvalue,
         work,
     );
-    let given = report(answer);
-    *tensor = given.tensor;
-    *index = given.index;
-    *total = given.total;
-    *masked = given.masked;
-    given.number
+    let told = report(answer);
+    *tensor = told.tensor;
+    *index = told.index;
+    *total = told.total;
+    *masked = told.masked;
+    told.number
 }
 
 // E(d): 1 and the value, or 0 and +0 where it has none.
