@@ -5,6 +5,8 @@
  *
  * EDITION. The number at the end of a name is the edition of the binary interface. A change of a record, a parameter or a meaning gives
  * the function the next number, so a program compiled with an older header does not link; it never computes other bits.
+ * Objects that hand structs of this header to each other are compiled with one header: a klaverdomp_call of the former edition has the
+ * same size, and any bytes at all where softcap stands.
  *
  * OWNERSHIP. The caller owns all memory and lends it for the length of a call. Nothing is allocated, kept or freed. The lengths count
  * elements, and are true: that many elements stand at the pointer, which is aligned for its type. A null pointer stands for an empty
@@ -46,8 +48,9 @@ enum {
     KLAVERDOMP_MAX_HEAD_SIZE = 256 /* head size, and value head size */
 };
 
-/* The largest given scale, and the largest magnitude of an element of query, key, value and the past caches. */
+/* The largest given scale, the largest score cap, and the largest magnitude of an element of query, key, value and the past caches. */
 #define KLAVERDOMP_MAX_SCALE 1024.0f
+#define KLAVERDOMP_MAX_SOFTCAP 65536.0f
 #define KLAVERDOMP_MAX_MAGNITUDE 65536.0f
 
 /* The form of a call: how keys and values are kept. */
@@ -71,13 +74,18 @@ enum {
 /* What the scores tensor shows. */
 enum {
     KLAVERDOMP_SCALED_SCORES = 0, /* scaled dot products; +0 at positions past the live count */
-    KLAVERDOMP_MASKED_SCORES = 1, /* after the float mask is added; minus infinity where a key is not seen */
-    KLAVERDOMP_CAPPED_SCORES = 2, /* the same as 1: there is no cap */
+    KLAVERDOMP_MASKED_SCORES = 1, /* after the float mask is added and before the cap; minus infinity where a key is not seen */
+    KLAVERDOMP_CAPPED_SCORES = 2, /* after the cap, and the same as 1 without one; minus infinity where a key is not seen */
     KLAVERDOMP_WEIGHTS = 3,       /* the weights; +0 where a key is not seen */
     KLAVERDOMP_NO_SCORES = 255
 };
 
-/* Any numbers may stand here: what is out of its limits is refused. In a record that is set to zeros score_mode shows scores. */
+/* Any numbers may stand here: what is out of its limits is refused. In a record that is set to zeros score_mode shows scores, and there
+ * is no cap.
+ *
+ * A cap c replaces each score s of a key that is seen, after the mask, by c * t: x = s / c; a is -x where x < 0, else x; g = E(a + a), the
+ * value of klaverdomp_exp_neg; t = (1 - g) / (1 + g), negated where x < 0; each is one operation in f32. That is near c * tanh(s / c), and
+ * never above c in magnitude. Keys that are not seen stay hidden. Weights and outputs go by the scores after the cap. */
 typedef struct klaverdomp_call {
     uint64_t form;
     uint64_t mask;
@@ -95,6 +103,7 @@ typedef struct klaverdomp_call {
     uint64_t value_size;   /* Dv, from 1 */
     uint64_t mask_dims[4]; /* each 1, or B, Hq, Sq and T in turn; not looked at without a mask */
     float scale;           /* looked at only where scale_kind is KLAVERDOMP_GIVEN_SCALE: above 0 */
+    float softcap;         /* the score cap: 0 of either sign: none; else above 0, up to KLAVERDOMP_MAX_SOFTCAP */
 } klaverdomp_call;
 
 /* ---- the tensors ---- */
@@ -136,8 +145,8 @@ typedef struct klaverdomp_tensors {
 } klaverdomp_tensors;
 
 /* The tensors of a step. The step profile: form is KLAVERDOMP_CACHED, mask KLAVERDOMP_NO_MASK, score_mode KLAVERDOMP_NO_SCORES and rank 4,
- * and causal, batches, query_length and key_length are 1; every other number of the record is free. klaverdomp_step takes calls of that
- * profile alone, which have no mask, live counts or scores. */
+ * and causal, batches, query_length and key_length are 1; every other number of the record is free, scale and softcap too.
+ * klaverdomp_step takes calls of that profile alone, which have no mask, live counts or scores. */
 typedef struct klaverdomp_step_tensors {
     /* read */
     const float *query;
@@ -168,8 +177,8 @@ enum {
     KLAVERDOMP_DONE = 0,
     KLAVERDOMP_LIMITS = 1,        /* a dimension or T is out of its limits, or P is not 0 outside a cached call */
     KLAVERDOMP_HEAD_GROUPS = 2,   /* the query heads are not a multiple of the key heads */
-    KLAVERDOMP_SETTINGS = 3,      /* a rank, causal flag, score mode or given scale that is not allowed; a code that names no form, mask
-                                     kind or scale kind */
+    KLAVERDOMP_SETTINGS = 3,      /* a rank, causal flag, score mode, given scale or softcap that is not allowed; a code that names no
+                                     form, mask kind or scale kind */
     KLAVERDOMP_MASK_SHAPE = 4,    /* a mask dimension is neither 1 nor its full size */
     KLAVERDOMP_INPUT_LENGTH = 5,  /* a tensor that is read has the wrong length */
     KLAVERDOMP_OUTPUT_LENGTH = 6, /* a tensor that is written has the wrong length */
@@ -202,13 +211,13 @@ typedef struct klaverdomp_answer {
 /* Their pointers are never null, also where the length is 0. */
 
 /* The numbers of the record, in their order: form, mask, scale_kind, score_mode, rank, causal, batches, query_heads, key_heads,
- * query_length, key_length, past_length, head_size, value_size and the four of mask_dims. Any other count than 18 is refusal 1 of
- * klaverdomp_attention_1 and refusal 10 of klaverdomp_step_1. */
+ * query_length, key_length, past_length, head_size, value_size and the four of mask_dims. Scale and softcap stand beside them. Any other
+ * count than 18 is refusal 1 of klaverdomp_attention_2 and refusal 10 of klaverdomp_step_2. */
 enum { KLAVERDOMP_RECORD_NUMBERS = 18 };
 
-uint32_t klaverdomp_attention_1(
+uint32_t klaverdomp_attention_2(
     const uint64_t *record, size_t record_len,
-    float scale,
+    float scale, float softcap,
     const float *query, size_t query_len,
     const float *key, size_t key_len,
     const float *value, size_t value_len,
@@ -224,9 +233,9 @@ uint32_t klaverdomp_attention_1(
     float *work, size_t work_len,
     uint64_t *tensor, uint64_t *index, uint64_t *total, uint64_t *masked_rows);
 
-uint32_t klaverdomp_step_1(
+uint32_t klaverdomp_step_2(
     const uint64_t *record, size_t record_len,
-    float scale,
+    float scale, float softcap,
     const float *query, size_t query_len,
     const float *key, size_t key_len,
     const float *value, size_t value_len,
@@ -270,9 +279,9 @@ static inline klaverdomp_answer klaverdomp_attention(const klaverdomp_call *call
     const int64_t no_count = 0;
     float no_float = 0.0f;
     klaverdomp_answer answer;
-    answer.refusal = klaverdomp_attention_1(
+    answer.refusal = klaverdomp_attention_2(
         record.numbers, KLAVERDOMP_RECORD_NUMBERS,
-        call->scale,
+        call->scale, call->softcap,
         t.query ? t.query : &no_float, t.query ? t.query_len : 0,
         t.key ? t.key : &no_float, t.key ? t.key_len : 0,
         t.value ? t.value : &no_float, t.value ? t.value_len : 0,
@@ -298,9 +307,9 @@ static inline klaverdomp_answer klaverdomp_step(const klaverdomp_call *call, con
     const klaverdomp_record record = klaverdomp_record_of(call);
     float no_float = 0.0f;
     klaverdomp_answer answer;
-    answer.refusal = klaverdomp_step_1(
+    answer.refusal = klaverdomp_step_2(
         record.numbers, KLAVERDOMP_RECORD_NUMBERS,
-        call->scale,
+        call->scale, call->softcap,
         t.query ? t.query : &no_float, t.query ? t.query_len : 0,
         t.key ? t.key : &no_float, t.key ? t.key_len : 0,
         t.value ? t.value : &no_float, t.value ? t.value_len : 0,
@@ -321,7 +330,7 @@ static inline const char *klaverdomp_refusal_text(uint32_t refusal)
     case KLAVERDOMP_DONE: return "done";
     case KLAVERDOMP_LIMITS: return "a dimension or the total length is out of its limits, or there is a past outside a cached call";
     case KLAVERDOMP_HEAD_GROUPS: return "the query heads are not a multiple of the key heads";
-    case KLAVERDOMP_SETTINGS: return "a form, mask kind, scale, score mode, rank or causal flag is not allowed";
+    case KLAVERDOMP_SETTINGS: return "a form, mask kind, scale, score cap, score mode, rank or causal flag is not allowed";
     case KLAVERDOMP_MASK_SHAPE: return "a mask dimension is neither 1 nor its full size";
     case KLAVERDOMP_INPUT_LENGTH: return "a tensor that is read has the wrong length";
     case KLAVERDOMP_OUTPUT_LENGTH: return "a tensor that is written has the wrong length";

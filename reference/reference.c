@@ -1,6 +1,6 @@
 /* The attention operator of the scope document, section by section: the record and its refusals in their order, where
- * an element stands, which keys a row sees, steps 1 to 5, the house exponential, the tables, the score modes, the
- * presents, the whole call, and the entry for a step. Plain loops, f32 throughout. */
+ * an element stands, which keys a row sees, steps 1 to 5, the score cap, the house exponential, the tables, the score
+ * modes, the presents, the whole call, and the entry for a step. Plain loops, f32 throughout. */
 
 #include "reference.h"
 
@@ -31,13 +31,14 @@ static int sizes_refused(const call *c) {
 /* 2 */
 static int heads_refused(const call *c) { return c->Hq % c->Hkv != 0; }
 
-/* 3: the settings, and codes that name no form, mask kind or scale kind. A scale that is not a number fails both
- * comparisons. */
+/* 3: the settings, and codes that name no form, mask kind or scale kind. A scale or a cap that is not a number fails
+ * both comparisons; a cap of -0 passes them. */
 static int settings_refused(const call *c) {
     if (c->form > FORM_COUNTED || c->mask_kind > MASK_FLOAT || c->scale_kind > SCALE_GIVEN) return 1;
     if (c->rank != 3 && c->rank != 4) return 1;
     if (c->causal > 1) return 1;
     if (c->score_mode > SCORES_WEIGHTS && c->score_mode != SCORES_NONE) return 1;
+    if (!(c->softcap >= 0.0f && c->softcap <= 65536.0f)) return 1;
     return c->scale_kind == SCALE_GIVEN && !(c->scale > 0.0f && c->scale <= 1024.0f);
 }
 
@@ -277,6 +278,24 @@ static void output_row(const struct view *view, const float *work, const struct 
     }
 }
 
+/* ---- Score cap ---- */
+
+/* A score s under a cap c above 0. s / c may be infinite. */
+static float capped(float s, float c) {
+    const float x = s / c;
+    const float a = x < 0.0f ? -x : x;
+    float g;
+    reference_exp_neg(a + a, &g);
+    const float t = (1.0f - g) / (1.0f + g);
+    return c * (x < 0.0f ? -t : t);
+}
+
+/* After step 2: each admitted score in the work row under the cap. */
+static void cap_row(const struct view *view, float c, float *work) {
+    for (size_t j = 0; j < view->last; j++)
+        if (admits(view, j)) work[j] = capped(work[j], c);
+}
+
 /* ---- House exponential ---- */
 
 static float from_bits(uint32_t bits) {
@@ -343,7 +362,9 @@ static int attend_row(const call *c, const struct view *view, const float *query
     const size_t row = view->T * sizeof *work;
     if (c->score_mode == SCORES_DOT) show_scores(view, query, keys, scale, shown);
     score_row(view, query, keys, scale, work);
-    if (c->score_mode == SCORES_MASKED || c->score_mode == SCORES_MASKED_TOO) memcpy(shown, work, row);
+    if (c->score_mode == SCORES_MASKED) memcpy(shown, work, row);
+    if (c->softcap != 0.0f) cap_row(view, c->softcap, work);
+    if (c->score_mode == SCORES_CAPPED) memcpy(shown, work, row);
     const int blind = softmax_row(view, work);
     if (c->score_mode == SCORES_WEIGHTS) memcpy(shown, work, row);
     output_row(view, work, values, y);

@@ -14,14 +14,15 @@
 enum { FORM_PLAIN = 0, FORM_CACHED = 1, FORM_COUNTED = 2 };
 enum { MASK_NONE = 0, MASK_BOOLEAN = 1, MASK_FLOAT = 2 };
 enum { SCALE_ABSENT = 0, SCALE_GIVEN = 1 };
-enum { SCORES_DOT = 0, SCORES_MASKED = 1, SCORES_MASKED_TOO = 2, SCORES_WEIGHTS = 3, SCORES_NONE = 255 };
+enum { SCORES_DOT = 0, SCORES_MASKED = 1, SCORES_CAPPED = 2, SCORES_WEIGHTS = 3, SCORES_NONE = 255 };
 
 /* The call record. Its numbers are what a caller hands over, so each may be anything at all. */
 struct reference_call {
     uint64_t form, mask_kind, scale_kind, score_mode, rank, causal;
     uint64_t B, Hq, Hkv, Sq, Sk, P, D, Dv;
     uint64_t mask_dims[4];
-    float scale; /* looked at only when scale_kind is SCALE_GIVEN */
+    float scale;   /* looked at only when scale_kind is SCALE_GIVEN */
+    float softcap; /* 0 of either sign: no cap */
 };
 
 struct floats { const float *at; size_t len; };

@@ -13,6 +13,7 @@ import tempfile
 import xml.etree.ElementTree
 from pathlib import Path
 
+AGREE = "3072 of 3072 outputs have the same bits, the caches too"
 FORMATS = {"<f4": "f", "<i8": "q", "|b1": "B", "|u1": "B", "<f8": "d"}
 
 
@@ -131,7 +132,26 @@ def known_calls(tool):
     tool.output("K", "y.npy", (1, 1, 1, 1), [2.0])
 
 
-def chunks(tool):
+def capped_calls(tool):
+    """Scores of 20 and -3 under a cap of 2, no cap, and the least and the largest one."""
+    qkv(tool, [1], [20, -3], [2, 4])
+    for mode, scores in ((0, [20.0, -3.0]), (1, [20.0, -3.0]), (2, [2.0, -1.8102965354919434]),
+                         (3, [0.9783380627632141, 0.021661978214979172])):
+        tool.done("a cap", "--scale", "1", "--softcap", "2", "--mode", mode, "--scores", "s.npy")
+        tool.output(f"a cap: scores of mode {mode}", "s.npy", (1, 1, 1, 2), scores)
+        tool.output("a cap: output", "y.npy", (1, 1, 1, 1), [2.0433239936828613])
+    for words in ((), ("--softcap", "0"), ("--softcap=-0",)):
+        tool.done("no cap", "--scale", "1", "--mode", "2", "--scores", "s.npy", *words)
+        tool.output("no cap: scores", "s.npy", (1, 1, 1, 2), [20.0, -3.0])
+        tool.output("no cap: output", "y.npy", (1, 1, 1, 1), [2.0])
+    tool.file("m.npy", (2,), [-17, float("-inf")])
+    for words, scores in ((("--softcap", "65536"), [3.0001373291015625]), (("--softcap", "1e-45"), [1.401298464324817e-45]),
+                          (("--softcap", "2"), [1.8102965354919434])):
+        tool.done("a cap after a mask", "--scale", "1", "--mask", "m.npy", "--mode", "2", "--scores", "s.npy", *words)
+        tool.output(f"a cap after a mask: {words}", "s.npy", (1, 1, 1, 2), scores + [float("-inf")])
+
+
+def chunks(tool, *cap):
     """A recording in three chunks has the bytes of the whole."""
     rng = random.Random(7)
     heads, kv_heads, positions, width = 4, 2, 9, 5
@@ -143,7 +163,7 @@ def chunks(tool):
             part = tensor[name][start * h * width:end * h * width]
             tool.file(f"{name}.npy", (1, end - start, h * width), part)
 
-    settings = ("--causal", "--q-heads", heads, "--kv-heads", kv_heads)
+    settings = ("--causal", "--q-heads", heads, "--kv-heads", kv_heads, *cap)
     write(0, positions)
     tool.done("the whole", *settings)
     _, whole = read(tool.folder / "y.npy")
@@ -154,6 +174,12 @@ def chunks(tool):
         together += read(tool.folder / "y.npy")[1]
         past = ("--past-key", "ck.npy", "--past-value", "cv.npy")
     tool.expect("chunks and the whole", together, whole)
+    return whole
+
+
+def capped_chunks(tool):
+    """So it is with a cap, which gives other bytes."""
+    tool.expect("chunks with a cap", chunks(tool, "--softcap", "0.5") != chunks(tool), True)
 
 
 def bad_files(tool):
@@ -198,6 +224,10 @@ def refused_calls(tool):
     qkv(tool, [1], [3, 3], [2, 4])
     tool.fails("a scale of 0", 1, "refusal 3", "--scale", "0")
     tool.fails("a scale that is no number", 1, "the scale is NaN", "--scale", "nan")
+    for words, number in (("-1", "-1.0"), ("-1e-45", "-1e-45"), ("65536.0078125", "65536.01"), ("inf", "inf"), ("-inf", "-inf"),
+                          ("nan", "NaN")):
+        tool.fails(f"a cap of {words}", 1, f"or the softcap not from 0 to 65,536\n  the softcap is {number}\n", "--softcap", words)
+    tool.fails("a scale and a cap", 1, "  the scale is 0\n  the softcap is 70000.0\n", "--softcap", "70000", "--scale", "0")
     tool.fails("mode 4", 1, "the score mode is 4", "--mode", "4", "--scores", "s.npy")
     tool.file("m.npy", (1, 1, 1, 3), [1, 1, 1], descr="|b1")
     tool.fails("a mask too long", 1, "refusal 4", "--mask", "m.npy")
@@ -217,13 +247,17 @@ def bad_usage(tool):
     qkv(tool, [1], [3, 3], [2, 4])
     tool.fails("an unknown option", 2, "--window is not an option here", "--window", "3")
     tool.fails("a scale in words", 2, "--scale half is not a number", "--scale", "half")
+    tool.fails("a cap in words", 2, "--softcap thirty is not a number", "--softcap", "thirty")
+    tool.fails("a cap without a number", 2, "--softcap needs a value", "--softcap")
+    tool.fails("two caps", 2, "--softcap is given twice", "--softcap", "30", "--softcap=30")
     tool.fails("a mode without scores", 2, "--mode and --scores go together", "--mode", "3")
     tool.fails("heads with 4 dimensions", 2, "with 4 the shapes give them", "--q-heads", "1")
     tool.fails("a past key alone", 2, "--past-key and --past-value go together", "--past-key", "q.npy")
     tool.fails("live counts beside a cache", 2, "--live stands for an outside cache", "--live", "live.npy", "--past-key", "q.npy")
     tool.fails("two outputs in one file", 2, "is named for two outputs", "--mode", "3", "--scores", "y.npy")
     tool.fails("an output that cannot be written", 2, "no/s.npy", "--mode", "3", "--scores", "no/s.npy")
-    for words in ((), ("no-such-command",), ("attend",), ("demo", "--head", "9"), ("bench", "--shape", "6")):
+    for words in ((), ("no-such-command",), ("attend",), ("demo", "--head", "9"), ("demo", "--softcap", "x"),
+                  ("bench", "--shape", "6")):
         tool.expect(f"status of {words}", tool.run(*words)[0], 2)
     for words in (("--help",), ("attend", "--help"), ("demo", "--help"), ("bench", "--help")):
         status, out, _ = tool.run(*words)
@@ -233,16 +267,31 @@ def bad_usage(tool):
 def demonstration(tool):
     status, out, err = tool.run("demo", "--output", "demo.svg", "--head", "2")
     tool.expect(f"demo: status, {err}", status, 0)
-    tool.expect("demo: cuts that agree", out.count("3072 of 3072 outputs have the same bits, the caches too"), 5)
-    root = xml.etree.ElementTree.parse(tool.folder / "demo.svg").getroot()
-    texts = ["".join(text.itertext()) for text in root.iter("{http://www.w3.org/2000/svg}text")]
-    for text in ("key position j", "query position i", "weight"):
+    tool.expect("demo: cuts that agree", out.count(AGREE), 10)
+    texts = picture_texts(tool)
+    for text in ("key position j", "query position i", "weight", "no score cap", "a score cap of 2"):
         tool.expect(f"demo: {text}", text in texts, True)
+    for words, agree, panels in ((("--softcap", "0.5"), 10, ["no score cap", "a score cap of 0.5"]),
+                                 (("--softcap=0",), 5, ["no score cap"])):
+        status, out, err = tool.run("demo", "--output", "demo.svg", *words)
+        tool.expect(f"demo {words}: status, {err}", (status, out.count(AGREE)), (0, agree))
+        tool.expect(f"demo {words}: panels", [text for text in picture_texts(tool) if "score cap" in text], panels)
+    status, _, err = tool.run("demo", "--softcap", "nan")
+    tool.expect(f"demo: a bad cap, {err}", (status, "the softcap is NaN" in err), (1, True))
+
+
+def picture_texts(tool):
+    root = xml.etree.ElementTree.parse(tool.folder / "demo.svg").getroot()
+    return ["".join(text.itertext()) for text in root.iter("{http://www.w3.org/2000/svg}text")]
+
+
+def measurements(tool):
     status, out, err = tool.run("bench", "--shape", "1", "--seconds", "0")
-    tool.expect(f"bench: status, {err}", (status, out.count("decode step B1 Hq8 Hkv8 P511 D64")), (0, 3))
-    tool.expect("bench: the step entry", "step / general" in out, True)
+    tool.expect(f"bench: status, {err}", (status, out.count("decode step B1 Hq8 Hkv8 P511 D64")), (0, 4))
+    tool.expect("bench: the step entry and the cap", ("step / general" in out, "With a score cap of 30" in out), (True, True))
     status, out, err = tool.run("bench", "--shape", "3", "--seconds", "0", "--no-shares")
-    tool.expect(f"bench: no step, {err}", (status, out.count("decode step B8 Hq8"), "step / general" in out), (0, 1, False))
+    tool.expect(f"bench: status, {err}", (status, out.count("decode step B8 Hq8")), (0, 1))
+    tool.expect("bench: no step and no cap", ("step / general" in out, "With a score cap" in out), (False, False))
 
 
 def closed_output(tool):
@@ -258,7 +307,8 @@ def main():
         sys.exit(__doc__)
     with tempfile.TemporaryDirectory() as folder:
         tool = Tool(Path(sys.argv[1]).resolve(), Path(folder))
-        for test in (known_calls, chunks, bad_files, refused_calls, bad_usage, demonstration, closed_output):
+        for test in (known_calls, capped_calls, chunks, capped_chunks, bad_files, refused_calls, bad_usage, demonstration,
+                     measurements, closed_output):
             test(tool)
         print(f"command line: {tool.checks} checks passed")
 

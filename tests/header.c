@@ -226,6 +226,54 @@ static void steps(void)
     expect(klaverdomp_step(&call, &step).refusal == KLAVERDOMP_DONE, "the mask's dimensions are not looked at");
 }
 
+/* Scores of 20 and -3 under a cap of 2, and caps at both sides of what is allowed. */
+static void caps(void)
+{
+    const float bad[] = { -1.0f, -1e-45f, 65536.0078125f, INFINITY, -INFINITY, NAN };
+    const float none[] = { 0.0f, -0.0f };
+    klaverdomp_answer a;
+    size_t i;
+    expect(sizeof call == KLAVERDOMP_RECORD_NUMBERS * sizeof(uint64_t) + 2 * sizeof(float), "the size of a record");
+    two_keys();
+    key[0] = 20;
+    key[1] = -3;
+    call.softcap = 2;
+    call.score_mode = KLAVERDOMP_CAPPED_SCORES;
+    t.scores = scores;
+    t.scores_len = 2;
+    a = klaverdomp_attention(&call, &t);
+    expect(a.refusal == KLAVERDOMP_DONE && scores[0] == 2 && bits(scores[1]) == 0xbfe7b7ccu, "scores after the cap");
+    expect(bits(work[0]) == 0x3f7a745du && bits(work[1]) == 0x3cb17476u && bits(output[0]) == 0x4002c5d2u, "weights under a cap");
+    call.score_mode = KLAVERDOMP_MASKED_SCORES;
+    a = klaverdomp_attention(&call, &t);
+    expect(a.refusal == KLAVERDOMP_DONE && scores[0] == 20 && scores[1] == -3, "scores before the cap");
+    call.score_mode = KLAVERDOMP_CAPPED_SCORES;
+    for (i = 0; i < 2; i++) {
+        call.softcap = none[i];
+        a = klaverdomp_attention(&call, &t);
+        expect(a.refusal == KLAVERDOMP_DONE && scores[0] == 20 && scores[1] == -3 && output[0] == 2, "no cap");
+    }
+    call.softcap = KLAVERDOMP_MAX_SOFTCAP;
+    expect(klaverdomp_attention(&call, &t).refusal == KLAVERDOMP_DONE, "the largest cap");
+    call.softcap = 1e-45f;
+    expect(klaverdomp_attention(&call, &t).refusal == KLAVERDOMP_DONE && bits(scores[0]) == 1 && bits(scores[1]) == 0x80000001u,
+           "the least cap");
+    one_step();
+    past_key[0] = 20;
+    key[0] = -3;
+    call.softcap = 2;
+    a = klaverdomp_step(&call, &step);
+    expect(a.refusal == KLAVERDOMP_DONE && bits(work[0]) == 0x3f7a745du && bits(work[1]) == 0x3cb17476u, "a step under a cap");
+    for (i = 0; i < sizeof bad / sizeof bad[0]; i++) {
+        two_keys();
+        call.softcap = bad[i];
+        refused(KLAVERDOMP_SETTINGS, "a cap that is not allowed");
+        one_step();
+        call.softcap = bad[i];
+        step_refused(KLAVERDOMP_SETTINGS, "a cap that is not allowed in a step");
+    }
+}
+
 /* A record with another count of numbers than 18. */
 static void record_lengths(void)
 {
@@ -238,7 +286,7 @@ static void record_lengths(void)
     for (i = 0; i <= KLAVERDOMP_RECORD_NUMBERS; i++)
         record[i] = 1;
     for (i = 0; i <= KLAVERDOMP_RECORD_NUMBERS + 1; i++) {
-        uint32_t refusal = klaverdomp_attention_1(record, i, 1, &none, 0, &none, 0, &none, 0, &no_byte, 0, &none, 0, &none, 0, &none, 0,
+        uint32_t refusal = klaverdomp_attention_2(record, i, 1, 0, &none, 0, &none, 0, &none, 0, &no_byte, 0, &none, 0, &none, 0, &none, 0,
                                                   &no_count, 0, &none, 0, &none, 0, &none, 0, &none, 0, &none, 0, &tensor, &index, &total,
                                                   &masked);
         expect(refusal == (i == KLAVERDOMP_RECORD_NUMBERS ? 3u : 1u), "a record's length");
@@ -249,8 +297,8 @@ static void record_lengths(void)
     record[3] = KLAVERDOMP_NO_SCORES;
     record[4] = 4;
     for (i = 0; i <= KLAVERDOMP_RECORD_NUMBERS + 1; i++) {
-        uint32_t refusal = klaverdomp_step_1(record, i, 1, &none, 0, &none, 0, &none, 0, &none, 0, &none, 0, &none, 0, &none, 0, &none, 0,
-                                             &none, 0, &tensor, &index, &total, &masked);
+        uint32_t refusal = klaverdomp_step_2(record, i, 1, 0, &none, 0, &none, 0, &none, 0, &none, 0, &none, 0, &none, 0, &none, 0,
+                                             &none, 0, &none, 0, &tensor, &index, &total, &masked);
         expect(refusal == (i == KLAVERDOMP_RECORD_NUMBERS ? 5u : 10u), "the length of a step's record");
         expect(tensor == 0 && index == 0 && total == 0 && masked == 0, "a step's numbers are written");
         tensor = index = total = masked = 5;
@@ -283,6 +331,7 @@ int main(void)
     calls_that_are_done();
     calls_that_are_refused();
     steps();
+    caps();
     record_lengths();
     values();
     for (n = 0; n <= KLAVERDOMP_PROFILE; n++)

@@ -1,13 +1,14 @@
 #!/usr/bin/env bash
 # The header compiles without a warning as C99 and as C++, a program that calls each of its functions ends with status 0 from either, and
-# so does the worked example. The static library is made where it is missing.
+# so does the worked example. A program that calls a function of the former edition does not link.
+# KLAVERDOMP_LIB_DIR names a folder with libklaverdomp.a; without it the static library is made where it is missing.
 set -eu
 cd "$(dirname "$0")/.."
 
 made=$(mktemp -d)
 trap 'rm -rf "$made"' EXIT
 flags="-O2 -Wall -Wextra -Wpedantic -Werror -Iinclude"
-library=target/staticlib/libklaverdomp.a
+library=${KLAVERDOMP_LIB_DIR:-target/staticlib}/libklaverdomp.a
 [ -f "$library" ] || rt staticlib klaverdomp
 
 gcc -std=c99 $flags -o "$made/header_c" tests/header.c "$library"
@@ -16,4 +17,19 @@ gcc -std=c99 $flags -o "$made/example" examples/prefill_and_steps.c "$library"
 "$made/header_c"
 "$made/header_cpp"
 "$made/example"
+
+links() { # FUNCTION
+    printf 'unsigned %s(void);\nint main(void) { return (int)%s(); }\n' "$1" "$1" > "$made/links.c"
+    LC_ALL=C gcc -o "$made/links" "$made/links.c" "$library" 2> "$made/words"
+}
+fails() { # WORDS
+    echo "header: $1"
+    cat "$made/words"
+    exit 1
+}
+for function in klaverdomp_attention klaverdomp_step; do
+    links "${function}_2" || fails "${function}_2 does not link"
+    ! links "${function}_1" || fails "${function}_1 links"
+    grep -q "undefined reference to .${function}_1'" "$made/words" || fails "${function}_1 is not what is missing"
+done
 echo "header: ok"

@@ -51,6 +51,7 @@ class Record:
     mask_kind: str = "none"  # none, boolean or float
     mask_dims: tuple = (1, 1, 1, 1)
     scale: float = None  # None where absent
+    softcap: float = 0.0  # 0 of either sign for no cap
     score_mode: int = None  # None where no scores are shown
 
     @property
@@ -125,7 +126,7 @@ ELEMENTS = {"boolean_mask": ctypes.c_uint8, "live": ctypes.c_int64}  # every oth
 
 
 class CRecord(ctypes.Structure):
-    _fields_ = [("numbers", ctypes.c_uint64 * 18), ("scale", ctypes.c_float)]
+    _fields_ = [("numbers", ctypes.c_uint64 * 18), ("scale", ctypes.c_float), ("softcap", ctypes.c_float)]
 
 
 class CTensor(ctypes.Structure):
@@ -164,7 +165,7 @@ def c_record(r):
     numbers = (FORMS[r.form], MASK_KINDS[r.mask_kind], r.scale is not None, NO_SCORES if r.score_mode is None else r.score_mode,
                r.rank, r.causal, r.batch, r.query_heads, r.key_heads, r.query_length, r.key_length, r.past_length,
                r.head_size, r.value_size, *r.mask_dims)
-    return CRecord((ctypes.c_uint64 * 18)(*numbers), 0.0 if r.scale is None else r.scale)
+    return CRecord((ctypes.c_uint64 * 18)(*numbers), 0.0 if r.scale is None else r.scale, r.softcap)
 
 
 def c_tensors(kind, tensors):

@@ -1,4 +1,5 @@
-"""Calls of the entry and what the reference makes of them: the worked examples A to M, every refusal, further accepted calls.
+"""Calls of the entry and what the reference makes of them: the worked examples A to M, every refusal, further accepted calls, calls
+with a cap.
 
     python3 tools/vectors.py examples    crates/entry_examples/stdout
 
@@ -302,6 +303,35 @@ def accepted():
                                     past_length=20, head_size=33, value_size=35, score_mode=1))
 
 
+# Calls with a cap
+
+TINY = 2.0 ** -28
+ROW_KEYS = [LEAST, -LEAST, TINY, -TINY, 2.5, -120.0, 65536.0, -65536.0]
+
+
+def capped():
+    row = Record(key_length=8, scale=0.25)
+    for label, cap, modes in (("least", LEAST, (1, 2)), ("0.5", 0.5, (1, 2, 3)), ("30", 30.0, (1, 2)),
+                              ("65536", 65536.0, (2,)), ("-0", -0.0, (2,))):
+        for mode in modes:
+            show(f"cap {label} mode {mode}", replace(row, softcap=cap, score_mode=mode),
+                 query=[1.0], key=ROW_KEYS, value=[float(n) for n in range(1, 9)])
+    grouped = replace(GROUPED, batch=1, query_heads=2, key_heads=1, causal=1, mask_dims=(1, 2, 2, 1), softcap=0.5, score_mode=2)
+    show_filled("cap plain", grouped)
+    show_filled("cap cached boolean mask", replace(grouped, form="cached", past_length=1, mask_kind="boolean"))
+    show_filled("cap cached float mask", replace(grouped, form="cached", past_length=1, mask_kind="float", score_mode=3))
+    show_filled("cap counted boolean mask", replace(grouped, form="counted", mask_kind="boolean"))
+    show_filled("cap counted float mask", replace(grouped, form="counted", mask_kind="float"))
+    show_filled("cap counted float mask mode 1", replace(grouped, form="counted", mask_kind="float", score_mode=1))
+    show("cap T 150", Record(key_length=150, scale=1.0, softcap=0.5, score_mode=2),
+         query=[1.0], key=fill("past_key", 150), value=fill("past_value", 150))
+    for label, cap in (("-least", -LEAST), ("-30", -30.0), ("NaN", NAN), ("infinity", INFINITY), ("minus infinity", -INFINITY),
+                       ("65536.0078125", ABOVE)):
+        show_record(f"3 cap {label}", softcap=cap)
+    show_record("2 before 3 cap", query_heads=3, key_heads=2, softcap=-1.0)
+    show_record("3 cap before 4", **vars(replace(grouped, mask_kind="float", mask_dims=(3, 1, 1, 1), softcap=-1.0)))
+
+
 def print_lines():
     examples()
     refused_records()
@@ -310,3 +340,4 @@ def print_lines():
     refused_contents()
     order()
     accepted()
+    capped()

@@ -1,6 +1,6 @@
 /* One call of the library and one of the plain C program of reference/, for tools/instructions.sh to count their instructions; where
- * B and S are 1, one at the step entry too. Arguments: B Hq Hkv P S D. The call is cached and causal, with S positions after P past
- * ones. */
+ * B and S are 1, one at the step entry too. Arguments: B Hq Hkv P S D and, where there is a score cap, the cap. The call is cached and
+ * causal, with S positions after P past ones. */
 #include <stdio.h>
 #include <stdlib.h>
 #include <string.h>
@@ -30,18 +30,20 @@ static int equal(const float *a, const float *b, size_t len)
 
 int main(int argc, char **argv)
 {
-    if (argc != 7) return fprintf(stderr, "usage: instructions B Hq Hkv P S D\n"), 2;
+    if (argc != 7 && argc != 8) return fprintf(stderr, "usage: instructions B Hq Hkv P S D [SOFTCAP]\n"), 2;
     uint64_t B = strtoull(argv[1], 0, 10), Hq = strtoull(argv[2], 0, 10), Hkv = strtoull(argv[3], 0, 10);
     uint64_t P = strtoull(argv[4], 0, 10), S = strtoull(argv[5], 0, 10), D = strtoull(argv[6], 0, 10), T = P + S;
     size_t nq = B * Hq * S * D, nk = B * Hkv * S * D, np = B * Hkv * P * D, nc = B * Hkv * T * D;
     float *q = tensor(nq), *k = tensor(nk), *v = tensor(nk), *pk = tensor(np), *pv = tensor(np);
     float *y = tensor(nq), *ck = tensor(nc), *cv = tensor(nc), *w = tensor(T);
     float *y2 = tensor(nq), *ck2 = tensor(nc), *cv2 = tensor(nc), *w2 = tensor(T);
+    float softcap = argc == 8 ? strtof(argv[7], 0) : 0.0f;
     int same = 1;
 
     klaverdomp_call call = {
         .form = KLAVERDOMP_CACHED, .score_mode = KLAVERDOMP_NO_SCORES, .rank = 4, .causal = 1,
         .batches = B, .query_heads = Hq, .key_heads = Hkv, .query_length = S, .key_length = S, .past_length = P, .head_size = D, .value_size = D,
+        .softcap = softcap,
     };
     klaverdomp_tensors t = {
         .query = q, .query_len = nq, .key = k, .key_len = nk, .value = v, .value_len = nk,
@@ -62,7 +64,7 @@ int main(int argc, char **argv)
         same = step.refusal == 0 && equal(y, y2, nq) && equal(ck, ck2, nc) && equal(cv, cv2, nc) && equal(w, w2, T);
     }
 
-    struct reference_call rc = {FORM_CACHED, MASK_NONE, SCALE_ABSENT, SCORES_NONE, 4, 1, B, Hq, Hkv, S, S, P, D, D, {0}, 0.0f};
+    struct reference_call rc = {FORM_CACHED, MASK_NONE, SCALE_ABSENT, SCORES_NONE, 4, 1, B, Hq, Hkv, S, S, P, D, D, {0}, 0.0f, softcap};
     struct reference_inputs in = {{q, nq}, {k, nk}, {v, nk}, {0, 0}, {0, 0}, {pk, np}, {pv, np}, {0, 0}};
     struct reference_outputs out = {{y2, nq}, {ck2, nc}, {cv2, nc}, {0, 0}, {w2, T}};
     struct reference_answer theirs;

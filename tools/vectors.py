@@ -1,6 +1,7 @@
 """Stored vectors: lists and random generators of calls, with the answers and the bits of the C reference (reference/).
 
-    python3 tools/vectors.py vectors    crates/examples/proofs/Vectors.antt: random calls with their outcomes, as claims
+    python3 tools/vectors.py vectors    crates/examples/proofs/Vectors.antt: random calls with their outcomes and scores
+                                        under caps, as claims
     python3 tools/vectors.py examples   crates/entry_examples/stdout: the calls of entry_examples.py with their outcomes
 """
 
@@ -199,9 +200,62 @@ def refused_calls(rng):
                 yield f"refusal {number}, beside a fault of {later}", refused_call(rng, fault, number, later)
 
 
+# Calls with a cap
+
+ABOVE_CAP = from_bits(0x47800001)
+CAPS = LEAST, 2.0 ** -20, 0.5, 30.0, 50.0, 65536.0
+BAD_CAPS = -LEAST, -30.0, math.nan, INFINITY, -INFINITY, ABOVE_CAP
+
+# Keys whose scores at scale 1/4 are +0, -0, of either sign so small that s / c is 0 or that E(a + a) is 1, near a cap of 0.5
+# to 50, and far above and below it
+CAP_KEYS = (LEAST, -LEAST, 2.0 ** -140, -(2.0 ** -140), 2.0 ** -28, -(2.0 ** -28), 2.5, -2.5, 120.0, -120.0, 65536.0,
+            -65536.0)
+
+
+def shown(r, inputs, mode):
+    """The scores that an accepted call shows in this mode."""
+    r = replace(r, score_mode=mode)
+    _, made = call(r, inputs, lent(output_lengths(r)))
+    return made.scores
+
+
+def capped_scores():
+    """Caps with scores before the cap, which mode 1 shows, and after it, which mode 2 shows."""
+    for cap in *CAPS, 0.0, -0.0:
+        r = Record(key_length=len(CAP_KEYS), scale=0.25, softcap=cap)
+        inputs = Inputs(query=[1.0], key=list(CAP_KEYS), value=[1.0] * len(CAP_KEYS))
+        yield from ((cap, *scores) for scores in zip(shown(r, inputs, 1), shown(r, inputs, 2)))
+
+
+def capped_rows():
+    """A row of three scores, of which one is hidden, under a cap, in every mode."""
+    for cap, mode in product((0.5, 30.0), range(4)):
+        r = Record(key_length=3, mask_kind="boolean", mask_dims=(1, 1, 1, 3), softcap=cap, score_mode=mode)
+        yield "a row under a cap, in every mode", (
+            r, Inputs(query=[2.0], key=[20.0, 3.0, -0.25], value=[1.0, 2.0, 4.0], boolean_mask=[1, 0, 1]), lent(output_lengths(r)))
+
+
+def capped_calls(rng):
+    """Every form with every mask kind; caps and modes spread evenly."""
+    shapes = list(product(("plain", "cached", "counted"), ("none", "boolean", "float")))
+    for (form, kind), cap, mode in zip(shapes, evenly(rng, len(shapes), *CAPS), evenly(rng, len(shapes), None, 0, 1, 2, 3)):
+        yield f"{form}, with a cap", tiny_call(rng, most=12, form=form, mask_kind=kind, softcap=cap, score_mode=mode)
+
+
+def refused_caps(rng):
+    """Every bad cap, alone and beside a fault of another refusal, of which the lower is given."""
+    for cap in BAD_CAPS:
+        yield "refusal 3, by the cap", refused_call(rng, setting(softcap=cap), 3)
+    for number in 1, 2:
+        made = refused_call(rng, rng.choice(FAULTS[number]), number)
+        yield f"refusal {number}, beside a bad cap", setting(softcap=math.nan)(rng, *made)
+    for later in 4, 5, 6:
+        yield f"refusal 3, by the cap, beside a fault of {later}", refused_call(rng, setting(softcap=-1.0), 3, later)
+
+
 # The calls and their outcomes as claims about the definition
 
-HEADER = """-- Tiny random calls, accepted and refused: the definition of the call gives them the outcomes of a reference written from the rules. Floats are f32 bits.
+HEADER = """-- Tiny random calls, accepted and refused, without a cap and with one, and scores under each cap: the definitions give them the outcomes of a reference written from the rules. Floats are f32 bits.
 -- Made by `python3 tools/vectors.py vectors`. Assumes nothing.
 use mathlib.Core.Path.{refl}
 use mathlib.Core.List.{List, [], _∷_}
@@ -211,6 +265,7 @@ use lib.IntN.{ℤ, pos, negsuc}
 use lib.ListN.{replicate}
 use lib.Ieee.{Float, nan, inf, fin, binary32, ofBits}
 use Rattle.exponential.specs.ExpNeg.{one}
+use Rattle.softmax.specs.Cap.{cappedWhere}
 use Rattle.call.specs.declared.Call.{Call}
 use Rattle.call.specs.declared.Form.{Form}
 use Rattle.call.specs.declared.Form.the-variants.{Plain, Cached, Counted}
@@ -225,14 +280,16 @@ use Rattle.call.specs.declared.Answer.the-variants.{Limits, HeadGroups, Setting
 use Rattle.call.specs.Tensors.{Inputs, Outputs}
 use Rattle.attention.specs.Outcomes.{attentionOf}
 use Rattle.attention.specs.Calls.{tensors, done}
-use Rattle.attention.specs.Table.{Claim, outcome, AllHold}
+use Rattle.attention.specs.Table.{Claim, outcome, underCap, AllHold}
 
--- rank and causal flag; B, Hq, Hkv; Sq, Sk, P; D, Dv; the mask's dimensions
-abbrev call : Form → MaskKind → Scale → ScoreMode → (rank causal batches qheads kvheads qlen klen past size vsize maskb maskh maskq maskk : ℕ) → Call
-call form mask scale mode rank causal batches qheads kvheads qlen klen past size vsize maskb maskh maskq maskk = record {
+-- the cap's bits; rank and causal flag; B, Hq, Hkv; Sq, Sk, P; D, Dv; the mask's dimensions
+unfoldable call : Form → MaskKind → Scale → ScoreMode → (softcap rank causal batches qheads kvheads qlen klen past size vsize maskb maskh maskq maskk : ℕ) → Call
+unfolding ofBits
+call form mask scale mode softcap rank causal batches qheads kvheads qlen klen past size vsize maskb maskh maskq maskk = record {
   form = form;
   mask = mask;
   scale = scale;
+  softcap = ofBits binary32 softcap;
   mode = mode;
   rank = rank;
   causal = causal;
@@ -285,15 +342,14 @@ accepted c x y total masked output presentKey presentValue scores work =
 -- the call is refused with this answer, and the tensors stay as they were lent
 abbrev refused : Call → Inputs → Outputs → Answer → Claim
 refused c x y answer = outcome c x y (record { answer = answer; tensors = y })
+"""
 
-unfoldable pub vectorTable : List Claim
-unfolding given reading accepted
-vectorTable ="""
-
-FOOTER = """
--- every claim of the table holds
-pub vectors : AllHold vectorTable
-unfolding vectorTable attentionOf"""
+TABLES = """
+-- under a cap, by its bits, the second score becomes the third
+unfoldable under : (cap score capped : ℕ) → Claim
+unfolding ofBits
+under cap score capped = underCap (ofBits binary32 cap) (ofBits binary32 score) (ofBits binary32 capped)
+"""
 
 NO_BREAK = "\u00a0"
 FORM_TEXT = {"plain": "Plain", "cached": "Cached", "counted": "Counted"}
@@ -326,8 +382,8 @@ def claim_text(r, inputs, outputs):
     (number, tensor, index, total, masked_rows), made = call(r, inputs, outputs)
     scale = "Absent" if r.scale is None else f"(given {bits_text(r.scale)})"
     mode = "NoScores" if r.score_mode is None else f"(Mode {r.score_mode})"
-    numbers = (r.rank, r.causal, r.batch, r.query_heads, r.key_heads, r.query_length, r.key_length, r.past_length,
-               r.head_size, r.value_size, *r.mask_dims)
+    numbers = (bits_text(r.softcap), r.rank, r.causal, r.batch, r.query_heads, r.key_heads, r.query_length, r.key_length,
+               r.past_length, r.head_size, r.value_size, *r.mask_dims)
     if number == 0:
         name, expected = "accepted", f"{total} {masked_rows} {tensors_text(made)}"
     else:
@@ -343,10 +399,9 @@ def print_indented(text):
     print("\n".join(lines).replace(NO_BREAK, " "))
 
 
-def vectors(seed=242):
-    rng = random.Random(seed)
-    calls = [*accepted_calls(rng), *refused_calls(rng)]
-    print(HEADER)
+def print_calls(name, calls):
+    """A table of claims about calls, with the note that stands with each where it changes."""
+    print(f"unfoldable pub {name} : List Claim\nunfolding call given reading accepted\n{name} =")
     above = None
     for note, made in calls:
         if note != above:
@@ -355,8 +410,35 @@ def vectors(seed=242):
             print_indented(f"∷ {line}" if above and line.startswith(("accepted", "refused")) else line)
         above = note
     print_indented("∷ []")
-    print(FOOTER)
-    print(f"vectors = {'(refl, ' * len(calls)}tt{')' * len(calls)}")
+
+
+def print_scores(name, scores):
+    """A table of claims about scores under a cap."""
+    print(f"unfoldable pub {name} : List Claim\nunfolding under\n{name} =")
+    for n, each in enumerate(scores):
+        print_indented(f"{'∷ ' if n else ''}under {' '.join(map(bits_text, each))}")
+    print_indented("∷ []")
+
+
+def print_proof(proof, table, claims, *unfolded):
+    print(f"\n-- every claim of the table holds\npub {proof} : AllHold {table}\nunfolding {table} {' '.join(unfolded)}")
+    print(f"{proof} = {'(refl, ' * len(claims)}tt{')' * len(claims)}")
+
+
+def vectors(seed=242):
+    rng = random.Random(seed)
+    calls = [*accepted_calls(rng), *refused_calls(rng)]
+    capped = [*capped_rows(), *capped_calls(rng), *refused_caps(rng)]
+    scores = list(capped_scores())
+    print(HEADER)
+    print_calls("vectorTable", calls)
+    print_proof("vectors", "vectorTable", calls, "attentionOf")
+    print(TABLES)
+    print_scores("capTable", scores)
+    print_proof("caps", "capTable", scores, "cappedWhere")
+    print()
+    print_calls("cappedTable", capped)
+    print_proof("cappedVectors", "cappedTable", capped, "attentionOf")
 
 
 if __name__ == "__main__":

@@ -1,4 +1,4 @@
--- How large the scores of an accepted call are: a score is within 2 ^ 50, and after the mask an admitted one is finite. A mask's cell stands within the mask. Assumes nothing.
+-- How large the scores of an accepted call are: a score is within 2 ^ 50, and after the mask an admitted one is finite, before the cap and under it. A mask's cell stands within the mask. Assumes nothing.
 use mathlib.Core.Path.{_≡_, refl, sym, subst}
 use mathlib.Core.Logic.{_⊎_, inl, inr}
 use Prim.Native.Nat.{ℕ, _<_}
@@ -13,6 +13,7 @@ use lib.Ieee.Fits.{and-l, and-r}
 use lib.Ieee.Scale.{finite}
 use Rattle.softmax.specs.Lists.{isHidden}
 use Rattle.softmax.proofs.Bounds.{bounded, scoreBound, bounded-finite, score-bounded, masked-score-finite}
+use Rattle.softmax.proofs.Cap.{under-cap-finite}
 use Rattle.call.specs.declared.Call.{Call}
 use Rattle.call.specs.declared.MaskKind.{MaskKind}
 use Rattle.call.specs.declared.MaskKind.the-variants.{NoMask, Boolean, Float as FloatMask}
@@ -25,8 +26,8 @@ use Rattle.call.proofs.Accepted.{Accepts}
 use Rattle.call.proofs.Facts.{holds, limits→facts, fit→lengths, shape→facts}
 use Rattle.attention.specs.Elements.{keyHeadOf, queryAt, keyAt}
 use Rattle.attention.specs.Admission.{repeated, maskIndex, maskCell, maskAdmits, causalAdmits, admits}
-use Rattle.attention.specs.Formula.{effectiveScale, dotScore, withMask, maskedScore}
-use Rattle.attention.proofs.Facts.{live-le-total, key-head-lt, query-bounded, key-bounded, scale-bounded}
+use Rattle.attention.specs.Formula.{effectiveScale, dotScore, withMask, maskedScore, cappedScore}
+use Rattle.attention.proofs.Facts.{live-le-total, key-head-lt, query-bounded, key-bounded, scale-bounded, cap-within}
 
 -- every cell of the float mask is an f32, as the elements of a lent slice are
 abbrev pub MaskFits : Inputs → Type 0
@@ -104,3 +105,8 @@ module _ {c : Call} {x : Inputs} {y : Outputs} (a : Accepts c x y) (b h i : ℕ)
       go NoMask m t = bounded-finite scoreBound (dotScore c x b h i j) tt s
       go Boolean m t = bounded-finite scoreBound (dotScore c x b h i j) tt s
       go FloatMask m t = masked-score-finite (dotScore c x b h i j) (maskCell c x b h i j) s (fit (maskIndex c b h i j)) (mask-cell-finite m j (lt-of-lt-of-le l (live-le-total a b hb)) t)
+
+  -- and so is its score under the cap
+  pub capped-score-finite : MaskFits x → (j : ℕ) → admits c x b h i j ≡ true → T (finite (cappedScore c x b h i j))
+  unfolding cappedScore
+  capped-score-finite fit j e = let k = cap-within a in under-cap-finite (c .softcap) (maskedScore c x b h i j) (k .0) (k .1) (admitted-finite fit j e)

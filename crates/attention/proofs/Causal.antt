@@ -8,6 +8,7 @@ use lib.Ieee.{Float}
 use borrow.Author.Tests.{lt-ltb, le-leb, lt-leb}
 use Rattle.tensor_laws.specs.Layout.{batchAt, headAt, positionAt}
 use Rattle.softmax.specs.Row.{scoreOf, rowOutputOf}
+use Rattle.softmax.specs.Cap.{cappedWhere}
 use Rattle.softmax.proofs.Structure.{cut-output, agree-output, seen-not-masked}
 use Rattle.call.specs.declared.Call.{Call}
 use Rattle.call.specs.declared.MaskKind.{MaskKind}
@@ -17,7 +18,7 @@ use Rattle.call.specs.Tensors.{Inputs}
 use Rattle.call.specs.Contents.{liveOf}
 use Rattle.attention.specs.Elements.{keyHeadOf, queryAt, keyAt, valueAt}
 use Rattle.attention.specs.Admission.{maskCell, maskAdmits, admits}
-use Rattle.attention.specs.Formula.{scaleWhere, effectiveScale, dotScore, withMask, maskedScore, attentionOutput, rowMasked}
+use Rattle.attention.specs.Formula.{scaleWhere, effectiveScale, dotScore, withMask, maskedScore, cappedScore, attentionOutput, rowMasked}
 use Rattle.attention.specs.Outcomes.{tally, countWhere, maskedRowsOf}
 
 -- calls with equal scales and head sizes have the same effective scale
@@ -47,28 +48,28 @@ module _ (c : Call) (x : Inputs) (unmasked : c .mask ≡ NoMask) (causal : c .ca
   seen : (b h i j : ℕ) → j < totalOf c → j ≤ c .past + i → admits c x b h i j ≡ true
   seen b h i j l m = causal-admits b h i j l ∙ le-leb j (c .past + i) m
 
-  -- no mask is added
-  plain-score : (b h i j : ℕ) → maskedScore c x b h i j ≡ scoreOf (c .size) (queryAt c x b h i) (keyAt c x b (keyHeadOf c h) j) (effectiveScale c)
-  unfolding maskedScore dotScore
-  plain-score b h i j = ap (λ (m : MaskKind). withMask m (dotScore c x b h i j) (maskCell c x b h i j)) unmasked
+  -- no mask is added before the cap
+  plain-score : (b h i j : ℕ) → cappedScore c x b h i j ≡ cappedWhere (c .softcap) (scoreOf (c .size) (queryAt c x b h i) (keyAt c x b (keyHeadOf c h) j) (effectiveScale c))
+  unfolding cappedScore maskedScore dotScore
+  plain-score b h i j = ap (λ (m : MaskKind). cappedWhere (c .softcap) (withMask m (dotScore c x b h i j) (maskCell c x b h i j))) unmasked
 
   -- the output of row i is that over the keys 0 to P + i, all of them seen
   pub causal-output : (b h i k : ℕ) → c .past + i < totalOf c
       → attentionOutput c x b h i k
-      ≡ rowOutputOf (suc (c .past + i)) (λ j. true) (λ j. scoreOf (c .size) (queryAt c x b h i) (keyAt c x b (keyHeadOf c h) j) (effectiveScale c)) (λ j. valueAt c x b (keyHeadOf c h) j k)
+      ≡ rowOutputOf (suc (c .past + i)) (λ j. true) (λ j. cappedWhere (c .softcap) (scoreOf (c .size) (queryAt c x b h i) (keyAt c x b (keyHeadOf c h) j) (effectiveScale c))) (λ j. valueAt c x b (keyHeadOf c h) j k)
   unfolding attentionOutput
   causal-output b h i k l =
       let value : ℕ → Float = λ j. valueAt c x b (keyHeadOf c h) j k in
-      cut-output (suc (c .past + i)) (totalOf c) (admits c x b h i) (maskedScore c x b h i) value l
+      cut-output (suc (c .past + i)) (totalOf c) (admits c x b h i) (cappedScore c x b h i) value l
       (λ j m n. causal-admits b h i j n ∙ lt-leb j (c .past + i) m)
-      ∙ agree-output (suc (c .past + i)) (admits c x b h i) (λ j. true) (maskedScore c x b h i)
-      (λ j. scoreOf (c .size) (queryAt c x b h i) (keyAt c x b (keyHeadOf c h) j) (effectiveScale c)) value value
+      ∙ agree-output (suc (c .past + i)) (admits c x b h i) (λ j. true) (cappedScore c x b h i)
+      (λ j. cappedWhere (c .softcap) (scoreOf (c .size) (queryAt c x b h i) (keyAt c x b (keyHeadOf c h) j) (effectiveScale c))) value value
       (λ j m. seen b h i j (omega arith) (omega arith)) (λ j m e. plain-score b h i j) (λ j m e. refl)
 
   -- every row admits key 0
   row-seen : 0 < totalOf c → (b h i : ℕ) → rowMasked c x b h i ≡ false
   unfolding rowMasked
-  row-seen l b h i = seen-not-masked (totalOf c) (admits c x b h i) (maskedScore c x b h i) 0 l (seen b h i 0 l zero-le)
+  row-seen l b h i = seen-not-masked (totalOf c) (admits c x b h i) (cappedScore c x b h i) 0 l (seen b h i 0 l zero-le)
 
   -- no row is fully masked
   pub causal-none-masked : 0 < totalOf c → maskedRowsOf c x ≡ 0

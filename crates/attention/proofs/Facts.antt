@@ -142,3 +142,9 @@ scale-where-bounded (Given s) size e p q = (lt→le plusZero s (and-l (lt plusZe
 pub scale-bounded : {c : Call} {x : Inputs} {y : Outputs} → Accepts c x y → T (le plusZero (effectiveScale c)) × T (le (effectiveScale c) scaleBound)
 unfolding effectiveScale
 scale-bounded {c} a = let l = limits→facts c (a .limits) in scale-where-bounded (c .scale) (c .size) (settings→facts c (a .settings) .scale) (l .size-some) (l .size-most)
+
+-- the cap is from 0 to 65,536
+pub cap-within : {c : Call} {x : Inputs} {y : Outputs} → Accepts c x y → T (le plusZero (c .softcap)) × T (le (c .softcap) elementBound)
+cap-within {c} a =
+    let h = holds (settings→facts c (a .settings) .softcap) in
+    (and-l (le plusZero (c .softcap)) (le (c .softcap) elementBound) h, and-r (le plusZero (c .softcap)) (le (c .softcap) elementBound) h)

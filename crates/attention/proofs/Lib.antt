@@ -6,6 +6,7 @@ pub mod Causal
 pub mod Facts
 pub mod Bounded
 pub mod Weights
+pub mod Capped
 pub mod Lengths
 pub mod Entries
 pub mod StepExamples

@@ -30,11 +30,11 @@ use Rattle.call.proofs.Accepted.{Accepts, verdict→accepts}
 use Rattle.call.proofs.Facts.{limits→facts}
 use Rattle.attention.specs.Elements.{keyHeadOf, keyAt, valueAt}
 use Rattle.attention.specs.Admission.{admits}
-use Rattle.attention.specs.Formula.{dotScore, maskedScore, attentionWeight, attentionOutput, shownScore}
+use Rattle.attention.specs.Formula.{dotScore, maskedScore, cappedScore, attentionWeight, attentionOutput, shownScore}
 use Rattle.attention.specs.Outcomes.{whereCached, presentKeyTensor, presentValueTensor, whereShown, scoresTensor, outputTensor, workRow, Outcome, acceptedOf, attentionOf}
 use Rattle.attention.proofs.Outcome.{accepted-outcome}
 use Rattle.attention.proofs.Facts.{key-head-lt, key-bounded, value-bounded}
-use Rattle.attention.proofs.Bounded.{MaskFits, admits→live, dot-score-bounded, admitted-finite}
+use Rattle.attention.proofs.Bounded.{MaskFits, admits→live, dot-score-bounded, admitted-finite, capped-score-finite}
 
 -- two calls that differ only in the tensors lent for writing, both accepted, have the same outcome
 pub outputs-independent : (c : Call) (x : Inputs) (y y' : Outputs) → verdictOf c x y ≡ Accepted → verdictOf c x y' ≡ Accepted → attentionOf c x y ≡ attentionOf c x y'
@@ -68,11 +68,11 @@ module _ (c : Call) (x : Inputs) (y : Outputs) (accepted : verdictOf c x y ≡ A
   -- a weight is a number from 0 to 1
   pub weights-in-unit : (b h i j : ℕ) → b < c .batches → h < c .qheads → i < c .qlen → j < totalOf c → InUnit (attentionWeight c x b h i j)
   unfolding attentionWeight
-  weights-in-unit b h i j hb hh hi hj = weight-in-unit (totalOf c) (admits c x b h i) (maskedScore c x b h i) small (λ k l s. admitted-finite a b h i hb hh hi fit k s) j hj
+  weights-in-unit b h i j hb hh hi hj = weight-in-unit (totalOf c) (admits c x b h i) (cappedScore c x b h i) small (λ k l s. capped-score-finite a b h i hb hh hi fit k s) j hj
 
   -- E is never asked below 0 or at NaN
-  pub exponential-asked-where-valued : (b h i : ℕ) → b < c .batches → h < c .qheads → i < c .qlen → (m : Float) → largestOf (totalOf c) (admits c x b h i) (maskedScore c x b h i) ≡ largest m → (j : ℕ) → j < totalOf c → admits c x b h i j ≡ true → T (hasValue (sub binary32 m (maskedScore c x b h i j)))
-  exponential-asked-where-valued b h i hb hh hi = asked-where-valued (totalOf c) (admits c x b h i) (maskedScore c x b h i) (λ k l s. admitted-finite a b h i hb hh hi fit k s)
+  pub exponential-asked-where-valued : (b h i : ℕ) → b < c .batches → h < c .qheads → i < c .qlen → (m : Float) → largestOf (totalOf c) (admits c x b h i) (cappedScore c x b h i) ≡ largest m → (j : ℕ) → j < totalOf c → admits c x b h i j ≡ true → T (hasValue (sub binary32 m (cappedScore c x b h i j)))
+  exponential-asked-where-valued b h i hb hh hi = asked-where-valued (totalOf c) (admits c x b h i) (cappedScore c x b h i) (λ k l s. capped-score-finite a b h i hb hh hi fit k s)
 
   work-row-in-unit : (i : ℕ) → InUnit (getD (workRow c x) i plusZero)
   unfolding workRow
@@ -113,7 +113,7 @@ module _ (c : Call) (x : Inputs) (y : Outputs) (accepted : verdictOf c x y ≡ A
           let n = totalOf c in
           let r = round binary32 false (n * 2 ^ 16) 1 in
           bounded-known r (attentionOutput c x b h i k) (plus-finite r (whole-plus n 16 (omega (arith, small)) (lit≤ tt)))
-          (output-bounded n (admits c x b h i) (maskedScore c x b h i) (λ j. valueAt c x b (keyHeadOf c h) j k) small (λ j l s. admitted-finite a b h i hb hh hi fit j s)
+          (output-bounded n (admits c x b h i) (cappedScore c x b h i) (λ j. valueAt c x b (keyHeadOf c h) j k) small (λ j l s. capped-score-finite a b h i hb hh hi fit j s)
           (λ j l s. value-bounded a b (keyHeadOf c h) j k hb (key-head-lt a h hh) (admits→live c x b h i j s) hk))
 
   -- in the cached form every position is below the live count
@@ -144,13 +144,13 @@ module _ (c : Call) (x : Inputs) (y : Outputs) (accepted : verdictOf c x y ≡ A
       go false l = zero-known
   shown-known (suc m) b h i j hb hh hi hj = later m
     where
-      masked : (t : Bool) → admits c x b h i j ≡ t → Known (cond t (maskedScore c x b h i j) hidden)
-      masked true e = finite-not-nan (maskedScore c x b h i j) (admitted-finite a b h i hb hh hi fit j e)
-      masked false e = unfold isNan in tt
+      marked : (s : Float) → (admits c x b h i j ≡ true → T (finite s)) → (t : Bool) → admits c x b h i j ≡ t → Known (cond t s hidden)
+      marked s f true e = finite-not-nan s (f e)
+      marked s f false e = unfold isNan in tt
 
       later : (m : ℕ) → Known (shownScore (suc m) c x b h i j)
-      later zero = masked (admits c x b h i j) refl
-      later (suc zero) = masked (admits c x b h i j) refl
+      later zero = marked (maskedScore c x b h i j) (admitted-finite a b h i hb hh hi fit j) (admits c x b h i j) refl
+      later (suc zero) = marked (cappedScore c x b h i j) (capped-score-finite a b h i hb hh hi fit j) (admits c x b h i j) refl
       later (suc (suc m)) = unit-known (attentionWeight c x b h i j) (weights-in-unit b h i j hb hh hi hj)
 
   scores-known : (i : ℕ) → Known (getD (scoresTensor c x) i plusZero)

@@ -25,6 +25,7 @@ small form mask mode causal past qlen klen = record {
   form = form;
   mask = mask;
   scale = Given one;
+  softcap = plusZero;
   mode = mode;
   rank = 4;
   causal = causal;

@@ -9,6 +9,7 @@ use Rattle.exponential.specs.ExpNeg.{plusZero}
 use Rattle.exponential.specs.Scale.{defaultScaleOf}
 use Rattle.softmax.specs.Row.{scoreOf, fullyMaskedOf, weightOf, rowOutputOf}
 use Rattle.softmax.specs.Lists.{hidden}
+use Rattle.softmax.specs.Cap.{cappedWhere}
 use Rattle.call.specs.declared.Call.{Call}
 use Rattle.call.specs.declared.MaskKind.{MaskKind}
 use Rattle.call.specs.declared.MaskKind.the-variants.{NoMask, Boolean, Float as FloatMask}
@@ -51,26 +52,31 @@ unfoldable pub maskedScore : Call → Inputs → (b h i j : ℕ) → Float
 unfolding dotScore add
 maskedScore c x b h i j = withMask (c .mask) (dotScore c x b h i j) (maskCell c x b h i j)
 
+-- the score under the cap, where there is one
+unfoldable pub cappedScore : Call → Inputs → (b h i j : ℕ) → Float
+unfolding cappedWhere maskedScore
+cappedScore c x b h i j = cappedWhere (c .softcap) (maskedScore c x b h i j)
+
 -- steps 3 and 4
 unfoldable pub attentionWeight : Call → Inputs → (b h i j : ℕ) → Float
-unfolding weightOf admits maskedScore
-attentionWeight c x b h i j = weightOf (totalOf c) (admits c x b h i) (maskedScore c x b h i) j
+unfolding weightOf admits cappedScore
+attentionWeight c x b h i j = weightOf (totalOf c) (admits c x b h i) (cappedScore c x b h i) j
 
 -- step 5: column k of the output row
 unfoldable pub attentionOutput : Call → Inputs → (b h i k : ℕ) → Float
-unfolding rowOutputOf admits maskedScore
-attentionOutput c x b h i k = rowOutputOf (totalOf c) (admits c x b h i) (maskedScore c x b h i) (λ j. valueAt c x b (keyHeadOf c h) j k)
+unfolding rowOutputOf admits cappedScore
+attentionOutput c x b h i k = rowOutputOf (totalOf c) (admits c x b h i) (cappedScore c x b h i) (λ j. valueAt c x b (keyHeadOf c h) j k)
 
 -- the row admits no key (a blind row)
 unfoldable pub rowMasked : Call → Inputs → (b h i : ℕ) → Bool
-unfolding fullyMaskedOf admits maskedScore
-rowMasked c x b h i = fullyMaskedOf (totalOf c) (admits c x b h i) (maskedScore c x b h i)
+unfolding fullyMaskedOf admits cappedScore
+rowMasked c x b h i = fullyMaskedOf (totalOf c) (admits c x b h i) (cappedScore c x b h i)
 
 -- ---- the scores shown, by mode
 
--- mode 0 shows s of step 1, and +0 at padded positions; modes 1 and 2 the scores after step 2, and minus infinity where not admitted; mode 3 the weights, +0 where not admitted
+-- mode 0 shows s of step 1, and +0 at padded positions; mode 1 the scores after step 2 and mode 2 those under the cap, and minus infinity where not admitted; mode 3 the weights, +0 where not admitted
 abbrev pub shownScore : ℕ → Call → Inputs → (b h i j : ℕ) → Float
 shownScore zero c x b h i j = cond (ltb j (liveOf c (x .live) b)) (dotScore c x b h i j) plusZero
 shownScore (suc zero) c x b h i j = cond (admits c x b h i j) (maskedScore c x b h i j) hidden
-shownScore (suc (suc zero)) c x b h i j = cond (admits c x b h i j) (maskedScore c x b h i j) hidden
+shownScore (suc (suc zero)) c x b h i j = cond (admits c x b h i j) (cappedScore c x b h i j) hidden
 shownScore (suc (suc (suc m))) c x b h i j = attentionWeight c x b h i j

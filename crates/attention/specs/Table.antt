@@ -1,4 +1,4 @@
--- The starred examples A to I, as one table of claims about the formulas themselves. Definitions only.
+-- What an example says of the formulas, and the starred examples A to I as one table of such claims. Definitions only.
 use mathlib.Core.Path.{_≡_}
 use mathlib.Core.List.{List, [], _∷_}
 use Prim.Native.Nat.{ℕ}
@@ -11,6 +11,7 @@ use Rattle.exponential.specs.declared.DefaultScale.{DefaultScale}
 use Rattle.exponential.specs.declared.DefaultScale.the-variants.{Scale}
 use Rattle.exponential.specs.ExpNeg.{plusZero, one, limit, log2e, wholePartOf, scaledOf, expNegOf}
 use Rattle.exponential.specs.Scale.{defaultScaleOf}
+use Rattle.softmax.specs.Cap.{cappedWhere}
 use Rattle.call.specs.declared.Call.{Call}
 use Rattle.call.specs.declared.Form.the-variants.{Plain, Cached}
 use Rattle.call.specs.declared.MaskKind.the-variants.{NoMask, Boolean}
@@ -35,6 +36,8 @@ pub data Claim : Type 0 where
   scaleOf : ℕ → DefaultScale → Claim
   -- the key head of a query head
   keyHead : Call → ℕ → ℕ → Claim
+  -- under a cap a score becomes this
+  underCap : Float → Float → Float → Claim
 
 abbrev pub Holds : Claim → Type 0
 Holds (outcome c x y o) = attentionOf c x y ≡ o
@@ -43,6 +46,7 @@ Holds (exponentialOf d e) = expNegOf d ≡ e
 Holds (wholePart d n) = wholePartOf (mul binary32 d log2e) ≡ n
 Holds (scaleOf D s) = defaultScaleOf D ≡ s
 Holds (keyHead c h g) = keyHeadOf c h ≡ g
+Holds (underCap c s e) = cappedWhere c s ≡ e
 
 abbrev pub AllHold : List Claim → Type 0
 AllHold [] = Unit {0}
@@ -58,6 +62,7 @@ grouped = record {
   form = Plain;
   mask = NoMask;
   scale = Absent;
+  softcap = plusZero;
   mode = NoScores;
   rank = 4;
   causal = 0;

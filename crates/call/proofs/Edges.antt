@@ -20,6 +20,9 @@ use Rattle.call.specs.Answers.{reportOf}
 use Rattle.call.specs.Tensors.{Inputs, Outputs}
 use Rattle.call.specs.Refusals.{verdictOf}
 
+abbrev pub zero : Float
+zero = fin false 0 (pos 0)
+
 abbrev pub one : Float
 one = fin false 1 (pos 0)
 
@@ -29,6 +32,7 @@ call form scale qheads kvheads klen = record {
   form = form;
   mask = NoMask;
   scale = scale;
+  softcap = zero;
   mode = NoScores;
   rank = 4;
   causal = 0;
@@ -52,6 +56,7 @@ withPast form past = record {
   form = form;
   mask = NoMask;
   scale = Absent;
+  softcap = zero;
   mode = NoScores;
   rank = 4;
   causal = 0;
@@ -75,6 +80,7 @@ masked kind maskk = record {
   form = Plain;
   mask = kind;
   scale = Absent;
+  softcap = zero;
   mode = NoScores;
   rank = 4;
   causal = 0;
@@ -98,6 +104,7 @@ setting mode rank causal = record {
   form = Plain;
   mask = NoMask;
   scale = Absent;
+  softcap = zero;
   mode = mode;
   rank = rank;
   causal = causal;

@@ -12,7 +12,7 @@ use Rattle.call.specs.declared.Call.{Call}
 use Rattle.call.specs.declared.MaskKind.{MaskKind}
 use Rattle.call.specs.declared.MaskKind.the-variants.{NoMask, Boolean, Float as FloatMask}
 use Rattle.call.specs.Tensors.{Inputs, Outputs}
-use Rattle.call.specs.Limits.{totalOf, within, pastAllowed, limitsHold, groupsHold, modeAllowed, scaleAllowed, settingsHold, oneOr, dimensionsHold, whereMasked, maskShapeHolds}
+use Rattle.call.specs.Limits.{totalOf, within, pastAllowed, limitsHold, groupsHold, modeAllowed, scaleAllowed, capAllowed, settingsHold, oneOr, dimensionsHold, whereMasked, maskShapeHolds}
 use Rattle.call.specs.Lengths.{inBoolean, inFloat, queryLength, keyLength, valueLength, maskLength, pastKeyLength, pastValueLength, liveLength, outputLength, presentKeyLength, presentValueLength, scoresLength, inputsFit, outputsFit}
 
 -- ---- tests
@@ -136,12 +136,13 @@ groups-same c d q k = λ i. eqb (q i % k i) 0
 
 -- ---- 3: settings
 
--- the rank, the causal flag, the score mode and the scale are allowed
+-- the rank, the causal flag, the score mode, the scale and the cap are allowed
 pub record InSettings (c : Call) : Type 0 where
   pub rank : (c .rank ≡ 3) ⊎ (c .rank ≡ 4)
   pub causal : c .causal ≤ 1
   pub mode : modeAllowed (c .mode) ≡ true
   pub scale : scaleAllowed (c .scale) ≡ true
+  pub softcap : capAllowed (c .softcap) ≡ true
 
 rank-of : (r : ℕ) → T (eqb r 3) ⊎ T (eqb r 4) → (r ≡ 3) ⊎ (r ≡ 4)
 rank-of r (inl t) = inl (eqb→eq r 3 t)
@@ -151,18 +152,19 @@ rank-of r (inr t) = inr (eqb→eq r 4 t)
 pub settings→facts : (c : Call) → settingsHold c ≡ true → InSettings c
 unfolding settingsHold
 settings→facts c e =
-    let q = four (eqb (c .rank) 3 || eqb (c .rank) 4) (leb (c .causal) 1) (modeAllowed (c .mode)) (scaleAllowed (c .scale)) (holds e) in
+    let q = five (eqb (c .rank) 3 || eqb (c .rank) 4) (leb (c .causal) 1) (modeAllowed (c .mode)) (scaleAllowed (c .scale)) (capAllowed (c .softcap)) (holds e) in
     record {
       rank = rank-of (c .rank) (either (eqb (c .rank) 3) (eqb (c .rank) 4) (q .0));
       causal = leb→le (c .causal) 1 (q .1);
       mode = is-true (modeAllowed (c .mode)) (q .2);
       scale = is-true (scaleAllowed (c .scale)) (q .3);
+      softcap = is-true (capAllowed (c .softcap)) (q .4);
     }
 
 -- refusal 3 looks at the settings alone
-pub settings-same : (c d : Call) → c .rank ≡ d .rank → c .causal ≡ d .causal → c .mode ≡ d .mode → c .scale ≡ d .scale → settingsHold c ≡ settingsHold d
+pub settings-same : (c d : Call) → c .rank ≡ d .rank → c .causal ≡ d .causal → c .mode ≡ d .mode → c .scale ≡ d .scale → c .softcap ≡ d .softcap → settingsHold c ≡ settingsHold d
 unfolding settingsHold
-settings-same c d r l m s = λ i. (eqb (r i) 3 || eqb (r i) 4) && leb (l i) 1 && modeAllowed (m i) && scaleAllowed (s i)
+settings-same c d r l m s p = λ i. (eqb (r i) 3 || eqb (r i) 4) && leb (l i) 1 && modeAllowed (m i) && scaleAllowed (s i) && capAllowed (p i)
 
 -- ---- 4: the mask's dimensions
 

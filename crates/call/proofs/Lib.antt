@@ -4,6 +4,7 @@ pub mod Accepted
 pub mod Facts
 pub mod Edges
 pub mod ProfileEdges
+pub mod CapEdges
 pub mod Lowest
 pub mod Entries
 pub mod MaskBounds

@@ -2,7 +2,7 @@
 use mathlib.Core.Path.{_≡_, refl}
 use Prim.Native.Nat.{ℕ}
 use mathlib.Core.Bool.{true, false}
-use lib.Ieee.{nan}
+use lib.Ieee.{Float, nan}
 use Rattle.call.specs.declared.Call.{Call}
 use Rattle.call.specs.declared.Form.{Form}
 use Rattle.call.specs.declared.Form.the-variants.{Plain, Cached, Counted}
@@ -15,13 +15,15 @@ use Rattle.call.specs.declared.ScoreMode.the-variants.{NoScores, Mode}
 use Rattle.call.specs.declared.Answer.the-variants.{Profile}
 use Rattle.call.specs.Answers.{reportOf}
 use Rattle.call.specs.Profile.{general, profileHolds, takes}
+use Rattle.call.proofs.Edges.{zero}
 
--- the eight that the profile looks at, with a scale and one number for all that it does not
-abbrev pub decode : Form → MaskKind → ScoreMode → (rank causal batches qlen klen : ℕ) → Scale → (free : ℕ) → Call
-decode form mask mode rank causal batches qlen klen scale free = record {
+-- the eight that the profile looks at, with a scale, a cap and one number for all that it does not
+abbrev pub decode : Form → MaskKind → ScoreMode → (rank causal batches qlen klen : ℕ) → Scale → (cap : Float) → (free : ℕ) → Call
+decode form mask mode rank causal batches qlen klen scale cap free = record {
   form = form;
   mask = mask;
   scale = scale;
+  softcap = cap;
   mode = mode;
   rank = rank;
   causal = causal;
@@ -41,28 +43,28 @@ decode form mask mode rank causal batches qlen klen scale free = record {
 
 pub record ProfileEdgesHold : Type 0 where
   -- a decode step; what the profile does not look at may be anything
-  pub decode-step : profileHolds (decode Cached NoMask NoScores 4 1 1 1 1 Absent 1) ≡ true
-  pub anything-free : profileHolds (decode Cached NoMask NoScores 4 1 1 1 1 (Given nan) 0) ≡ true
-  pub large-free : profileHolds (decode Cached NoMask NoScores 4 1 1 1 1 Absent 18446744073709551615) ≡ true
+  pub decode-step : profileHolds (decode Cached NoMask NoScores 4 1 1 1 1 Absent zero 1) ≡ true
+  pub anything-free : profileHolds (decode Cached NoMask NoScores 4 1 1 1 1 (Given nan) nan 0) ≡ true
+  pub large-free : profileHolds (decode Cached NoMask NoScores 4 1 1 1 1 Absent zero 18446744073709551615) ≡ true
   -- each of the eight conditions is needed
-  pub plain : profileHolds (decode Plain NoMask NoScores 4 1 1 1 1 Absent 1) ≡ false
-  pub counted : profileHolds (decode Counted NoMask NoScores 4 1 1 1 1 Absent 1) ≡ false
-  pub boolean-mask : profileHolds (decode Cached Boolean NoScores 4 1 1 1 1 Absent 1) ≡ false
-  pub float-mask : profileHolds (decode Cached FloatMask NoScores 4 1 1 1 1 Absent 1) ≡ false
-  pub scores-shown : profileHolds (decode Cached NoMask (Mode 0) 4 1 1 1 1 Absent 1) ≡ false
-  pub mode-255 : profileHolds (decode Cached NoMask (Mode 255) 4 1 1 1 1 Absent 1) ≡ false
-  pub rank-3 : profileHolds (decode Cached NoMask NoScores 3 1 1 1 1 Absent 1) ≡ false
-  pub rank-7 : profileHolds (decode Cached NoMask NoScores 7 1 1 1 1 Absent 1) ≡ false
-  pub not-causal : profileHolds (decode Cached NoMask NoScores 4 0 1 1 1 Absent 1) ≡ false
-  pub causal-2 : profileHolds (decode Cached NoMask NoScores 4 2 1 1 1 Absent 1) ≡ false
-  pub no-batch : profileHolds (decode Cached NoMask NoScores 4 1 0 1 1 Absent 1) ≡ false
-  pub two-batches : profileHolds (decode Cached NoMask NoScores 4 1 2 1 1 Absent 1) ≡ false
-  pub no-query : profileHolds (decode Cached NoMask NoScores 4 1 1 0 1 Absent 1) ≡ false
-  pub queries-3000 : profileHolds (decode Cached NoMask NoScores 4 1 1 3000 1 Absent 1) ≡ false
-  pub no-key : profileHolds (decode Cached NoMask NoScores 4 1 1 1 0 Absent 1) ≡ false
-  pub two-keys : profileHolds (decode Cached NoMask NoScores 4 1 1 1 2 Absent 1) ≡ false
+  pub plain : profileHolds (decode Plain NoMask NoScores 4 1 1 1 1 Absent zero 1) ≡ false
+  pub counted : profileHolds (decode Counted NoMask NoScores 4 1 1 1 1 Absent zero 1) ≡ false
+  pub boolean-mask : profileHolds (decode Cached Boolean NoScores 4 1 1 1 1 Absent zero 1) ≡ false
+  pub float-mask : profileHolds (decode Cached FloatMask NoScores 4 1 1 1 1 Absent zero 1) ≡ false
+  pub scores-shown : profileHolds (decode Cached NoMask (Mode 0) 4 1 1 1 1 Absent zero 1) ≡ false
+  pub mode-255 : profileHolds (decode Cached NoMask (Mode 255) 4 1 1 1 1 Absent zero 1) ≡ false
+  pub rank-3 : profileHolds (decode Cached NoMask NoScores 3 1 1 1 1 Absent zero 1) ≡ false
+  pub rank-7 : profileHolds (decode Cached NoMask NoScores 7 1 1 1 1 Absent zero 1) ≡ false
+  pub not-causal : profileHolds (decode Cached NoMask NoScores 4 0 1 1 1 Absent zero 1) ≡ false
+  pub causal-2 : profileHolds (decode Cached NoMask NoScores 4 2 1 1 1 Absent zero 1) ≡ false
+  pub no-batch : profileHolds (decode Cached NoMask NoScores 4 1 0 1 1 Absent zero 1) ≡ false
+  pub two-batches : profileHolds (decode Cached NoMask NoScores 4 1 2 1 1 Absent zero 1) ≡ false
+  pub no-query : profileHolds (decode Cached NoMask NoScores 4 1 1 0 1 Absent zero 1) ≡ false
+  pub queries-3000 : profileHolds (decode Cached NoMask NoScores 4 1 1 3000 1 Absent zero 1) ≡ false
+  pub no-key : profileHolds (decode Cached NoMask NoScores 4 1 1 1 0 Absent zero 1) ≡ false
+  pub two-keys : profileHolds (decode Cached NoMask NoScores 4 1 1 1 2 Absent zero 1) ≡ false
   -- the general entry takes any record
-  pub general-takes : takes general (decode Plain Boolean (Mode 9) 7 2 0 3000 0 (Given nan) 0) ≡ true
+  pub general-takes : takes general (decode Plain Boolean (Mode 9) 7 2 0 3000 0 (Given nan) nan 0) ≡ true
   -- refusal 10 has no place
   pub profile-report : reportOf Profile ≡ record { number = 10; tensor = 0; index = 0; total = 0; masked = 0 }
 

@@ -3,7 +3,7 @@ use Prim.Native.Nat.{ℕ, _+_, _%_}
 use mathlib.Core.Bool.{Bool, true, false, _&&_, _||_}
 use lib.IntN.{pos}
 use lib.Dec.{leb, eqb}
-use lib.Ieee.{fin, lt, le}
+use lib.Ieee.{Float, fin, lt, le}
 use Rattle.call.specs.declared.Call.{Call}
 use Rattle.call.specs.declared.Form.{Form}
 use Rattle.call.specs.declared.Form.the-variants.{Plain, Cached, Counted}
@@ -46,7 +46,7 @@ limitsHold c =
 unfoldable pub groupsHold : Call → Bool
 groupsHold c = eqb (c .qheads % c .kvheads) 0
 
--- ---- 3: rank, causal flag, score mode and scale
+-- ---- 3: rank, causal flag, score mode, scale and cap
 
 abbrev pub modeAllowed : ScoreMode → Bool
 modeAllowed NoScores = true
@@ -57,9 +57,13 @@ abbrev pub scaleAllowed : Scale → Bool
 scaleAllowed Absent = true
 scaleAllowed (Given x) = lt (fin false 0 (pos 0)) x && le x (fin false 1 (pos 10))
 
+-- a cap is 0 of either sign or above 0, and at most 65,536, so it is a number
+abbrev pub capAllowed : Float → Bool
+capAllowed x = le (fin false 0 (pos 0)) x && le x (fin false 1 (pos 16))
+
 unfoldable pub settingsHold : Call → Bool
 unfolding lt le
-settingsHold c = (eqb (c .rank) 3 || eqb (c .rank) 4) && leb (c .causal) 1 && modeAllowed (c .mode) && scaleAllowed (c .scale)
+settingsHold c = (eqb (c .rank) 3 || eqb (c .rank) 4) && leb (c .causal) 1 && modeAllowed (c .mode) && scaleAllowed (c .scale) && capAllowed (c .softcap)
 
 -- ---- 4: each mask dimension is 1 or its full size; not looked at without a mask
 

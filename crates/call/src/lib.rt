@@ -28,6 +28,8 @@ pub struct Call {
     pub form: Form,
     pub mask: MaskKind,
     pub scale: Scale,
+    // 0 of either sign for no cap (ONNX: softcap)
+    pub softcap: f32,
     pub mode: ScoreMode,
     pub rank: usize,
     // 0 or 1 (ONNX: is_causal)

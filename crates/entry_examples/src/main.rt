@@ -3,6 +3,7 @@
 //     python3 tools/vectors.py examples > crates/entry_examples/stdout
 mod accepted;
 mod calls;
+mod capped;
 mod examples;
 mod limits;
 mod records;
@@ -43,4 +44,8 @@ fn main() {
     accepted::masked_caches();
     accepted::minus_zeros();
     accepted::long_rows();
+    capped::rows();
+    capped::masks();
+    capped::long_row();
+    capped::refused();
 }

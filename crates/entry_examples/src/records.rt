@@ -12,6 +12,7 @@ pub fn record(form: Form, mask: MaskKind, scale: Scale, mode: ScoreMode) -> Call
         form,
         mask,
         scale,
+        softcap: 0.0,
         mode,
         rank: 4,
         causal: 0,
@@ -76,6 +77,11 @@ pub fn with_rank(mut call: Call, rank: usize) -> Call {
 
 pub fn with_causal(mut call: Call, causal: usize) -> Call {
     call.causal = causal;
+    call
+}
+
+pub fn with_cap(mut call: Call, cap: f32) -> Call {
+    call.softcap = cap;
     call
 }
 

@@ -7,3 +7,4 @@ pub mod Product
 pub mod Exact
 pub mod Fraction
 pub mod Zero
+pub mod MinusZero

@@ -1,14 +1,16 @@
 -- `le` is an order of all values but `nan`, infinities included, `lt` is its strict part, and `neg` turns it round. What lies between finite values is finite.
 -- The statements on fractions and on a format's range are those of `Cross` and `Range`, passed on. Assumes nothing.
-use mathlib.Core.Bool.{Bool, true, false, not}
+use mathlib.Core.Path.{_≡_, sym}
+use mathlib.Core.Bool.{Bool, true, false, not, _||_, Bool·beq}
 use Prim.Native.Nat.{ℕ, _+_, _*_, _≤_, _<_}
 use native.Mathlib.Nat.{mul-le-mul-right, le-of-mul-le-mul-right}
 use native.Mathlib.Omega.{arith}
-use lib.Dec.{T, T-not, not-T}
-use lib.Ieee.{Float, nan, inf, fin, neg, lt, eq, le, isNan}
+use lib.Dec.{T, T-not, not-T, eqb, eqb→eq}
+use lib.Ieee.{Float, nan, inf, fin, up, down, neg, below, level, lt, eq, le, isNan}
+use lib.Ieee.Fits.{and-i, and-l, eq→eqb}
 use lib.Ieee.Positive.{den, den-pos}
 use lib.Ieee.Scale.{finite}
-use Rattle.float_laws.proofs.Cross.{or-l, lt→cross, cross→lt, neg-finite, gain-neg, loss-neg, den-neg}
+use Rattle.float_laws.proofs.Cross.{or-l, or-r, lt→cross, cross→lt, neg-finite, gain-neg, loss-neg, den-neg}
 pub use Rattle.float_laws.proofs.Cross.{plusZero, gain, loss, le→cross, cross→le, neg-neg}
 pub use Rattle.float_laws.proofs.Range.{largest, finite-range, plus, plus-finite, plus-of-value, finite-not-nan, zero-le}
 
@@ -171,3 +173,36 @@ lt-of-not-le x y p q h = go (lt y x) (le-of-not-lt y x q p)
     go : (b : Bool) → (T (not b) → T (le x y)) → T b
     go true k = tt
     go false k = absurd (T-not (le x y) h (k tt))
+
+-- what is not below +0, and not equal to it, is above it
+pub above-zero : (x : Float) → T (le plusZero x) → T (not (eq x plusZero)) → T (lt plusZero x)
+unfolding le lt eq
+above-zero nan h e = absurd h
+above-zero (inf true) h e = absurd h
+above-zero (inf false) h e = tt
+above-zero (fin s m d) h e = go (below false (0 * down d) s (m * up d * 1)) h
+  where
+    equal : T (level false (0 * down d) s (m * up d * 1)) → T (level s (m * up d * 1) false (0 * down d))
+    equal t =
+        let z = eqb→eq (0 * down d) (m * up d * 1) (and-l (eqb (0 * down d) (m * up d * 1)) (Bool·beq false s || eqb (0 * down d) 0) t) in
+        and-i (eqb (m * up d * 1) (0 * down d)) (Bool·beq s false || eqb (m * up d * 1) 0) (eq→eqb (sym z)) (or-r (Bool·beq s false) (eqb (m * up d * 1) 0) (eq→eqb {a = m * up d * 1} {b = 0} (omega (arith, z))))
+
+    go : (t : Bool) → T (t || level false (0 * down d) s (m * up d * 1)) → T t
+    go true k = tt
+    go false k = T-not (level s (m * up d * 1) false (0 * down d)) e (equal k)
+
+-- 0 of either sign is not below +0
+pub zero-not-below : (x : Float) → T (eq x plusZero) → T (le plusZero x)
+unfolding eq
+zero-not-below nan h = absurd h
+zero-not-below (inf s) h = absurd h
+zero-not-below (fin s m d) h = go s (eqb→eq (m * up d * 1) (0 * down d) (and-l (eqb (m * up d * 1) (0 * down d)) (Bool·beq s false || eqb (m * up d * 1) 0) h))
+  where
+    go : (t : Bool) → m * up d * 1 ≡ 0 * down d → T (le plusZero (fin t m d))
+    go true z = cross→le plusZero (fin true m d) tt tt (omega (arith, z))
+    go false z = cross→le plusZero (fin false m d) tt tt (omega (arith, z))
+
+-- nor is it above +0
+pub zero-not-above : (x : Float) → T (eq x plusZero) → T (le x plusZero)
+unfolding le
+zero-not-above x h = or-r (lt x plusZero) (eq x plusZero) h

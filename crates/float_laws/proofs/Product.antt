@@ -154,6 +154,9 @@ div-rounded f (fin s m e) (fin true n d) p q = absurd q
 div-rounded f (fin true m e) (fin false n d) p q = less (m * up e * down d) (omega arith) (div-is f true m e n d q)
 div-rounded f (fin false m e) (fin false n d) p q = more (m * up e * down d) (omega arith) (div-is f false m e n d q)
 
+pub div-not-nan : (f : Format) (x y : Float) → T (finite x) → T (finite y) → T (lt plusZero y) → T (not (isNan (div f x y)))
+div-not-nan f x y p q l = rounded-not-nan f (gain x * den y) (loss x * den y) (gain y * den x) (div f x y) (div-rounded f x y p (is-above y q l))
+
 divided : (p n a q m b r c : ℕ) → p * b + m * a ≤ q * a + n * b → p * c * (r * b) + m * c * (r * a) ≤ q * c * (r * a) + n * c * (r * b)
 divided p n a q m b r c h = omega (arith, mul-le-mul-right (c * r) h)
 

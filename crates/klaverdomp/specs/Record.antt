@@ -1,4 +1,4 @@
--- The call record as 18 numbers and a scale, and the call that they stand for.
+-- The call record as 18 numbers, a scale and a cap, and the call that they stand for.
 -- The numbers: form, mask kind, scale kind, score mode, rank, causal flag, B, Hq, Hkv, Sq, Sk, P, D, Dv, and the mask's four dimensions. Definitions only.
 use mathlib.Core.List.{List}
 use Prim.Native.Nat.{ℕ}
@@ -46,12 +46,13 @@ unfoldable pub rankOf : ℕ → ℕ → ℕ → ℕ
 unfolding codesNamed
 rankOf form mask rank = cond (codesNamed form mask) rank 0
 
-unfoldable pub callOf : List ℕ → Float → Call
+unfoldable pub callOf : List ℕ → (scale softcap : Float) → Call
 unfolding numberOf formOf maskKindOf scaleOf modeOf rankOf
-callOf numbers scale = let n = numberOf numbers in record {
+callOf numbers scale softcap = let n = numberOf numbers in record {
   form = formOf (n 0);
   mask = maskKindOf (n 1);
   scale = scaleOf (n 2) scale;
+  softcap = softcap;
   mode = modeOf (n 3);
   rank = rankOf (n 0) (n 1) (n 4);
   causal = n 5;

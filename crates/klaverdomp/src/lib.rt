@@ -1,4 +1,4 @@
-// The operator's exported functions: a call record as 18 numbers is decoded, the entry is called, and the answer is given back as numbers.
+// The operator's exported functions: a call record as 18 numbers, a scale and a cap is decoded, the entry is called, and the answer is given back as numbers.
 // Every function takes any arguments. The number at the end of a name is the edition of the binary interface.
 ghost use mathlib.Core.Path.{_≡_};
 ghost use Rattle.call.specs.Answers.{reportOf, refusal, refusalAt};
@@ -94,8 +94,8 @@ fn decode_rank(form: usize, mask: usize, rank: usize) -> usize
     rank
 }
 
-fn decode(numbers: &[u64], scale: f32) -> Call
-    ensures { λ r. ⌜ r ≡ callOf (now (numbers .entry)) scale ⌝ }
+fn decode(numbers: &[u64], scale: f32, softcap: f32) -> Call
+    ensures { λ r. ⌜ r ≡ callOf (now (numbers .entry)) scale softcap ⌝ }
 {
     let form = number(numbers, 0);
     let mask = number(numbers, 1);
@@ -106,6 +106,7 @@ fn decode(numbers: &[u64], scale: f32) -> Call
         form: decode_form(form),
         mask: decode_mask(mask),
         scale: decode_scale(given, scale),
+        softcap,
         mode: decode_mode(mode),
         rank: decode_rank(form, mask, rank),
         causal: number(numbers, 5),
@@ -193,9 +194,10 @@ fn report(answer: Answer) -> Numbers
 
 // Attention. The result is 0 for done and else the number of the refusal; the four numbers behind it are always written.
 #[no_mangle]
-pub extern "C" fn klaverdomp_attention_1<'a>(
+pub extern "C" fn klaverdomp_attention_2<'a>(
     numbers: &[u64],
     scale: f32,
+    softcap: f32,
     query: &[f32],
     key: &'a [f32],
     value: &'a [f32],
@@ -214,9 +216,9 @@ pub extern "C" fn klaverdomp_attention_1<'a>(
     total: &mut u64,
     masked: &mut u64,
 ) -> u32
-    ensures { λ r. ⌜ returned r (now (tensor .exit)) (now (index .exit)) (now (total .exit)) (now (masked .exit)) (outputsOf (now (output .exit)) (now (presentkey .exit)) (now (presentvalue .exit)) (now (scores .exit)) (now (work .exit))) ≡ returnedOf (attentionOf (callOf (now (numbers .entry)) scale) (inputsOf (now (query .entry)) (now (key .entry)) (now (value .entry)) (now (boolmask .entry)) (now (floatmask .entry)) (now (pastkey .entry)) (now (pastvalue .entry)) (now (live .entry))) (outputsOf (now (output .entry)) (now (presentkey .entry)) (now (presentvalue .entry)) (now (scores .entry)) (now (work .entry)))) ⌝ }
+    ensures { λ r. ⌜ returned r (now (tensor .exit)) (now (index .exit)) (now (total .exit)) (now (masked .exit)) (outputsOf (now (output .exit)) (now (presentkey .exit)) (now (presentvalue .exit)) (now (scores .exit)) (now (work .exit))) ≡ returnedOf (attentionOf (callOf (now (numbers .entry)) scale softcap) (inputsOf (now (query .entry)) (now (key .entry)) (now (value .entry)) (now (boolmask .entry)) (now (floatmask .entry)) (now (pastkey .entry)) (now (pastvalue .entry)) (now (live .entry))) (outputsOf (now (output .entry)) (now (presentkey .entry)) (now (presentvalue .entry)) (now (scores .entry)) (now (work .entry)))) ⌝ }
 {
-    let call = decode(numbers, scale);
+    let call = decode(numbers, scale, softcap);
     let answer = entry::attention(
         call,
         query,
@@ -243,9 +245,10 @@ pub extern "C" fn klaverdomp_attention_1<'a>(
 
 // A step: attention for the records of the step profile, which is lent no masks, live counts and scores. Any other record is refusal 10.
 #[no_mangle]
-pub extern "C" fn klaverdomp_step_1<'a>(
+pub extern "C" fn klaverdomp_step_2<'a>(
     numbers: &[u64],
     scale: f32,
+    softcap: f32,
     query: &[f32],
     key: &'a [f32],
     value: &'a [f32],
@@ -260,9 +263,9 @@ pub extern "C" fn klaverdomp_step_1<'a>(
     total: &mut u64,
     masked: &mut u64,
 ) -> u32
-    ensures { λ r. ⌜ returned r (now (tensor .exit)) (now (index .exit)) (now (total .exit)) (now (masked .exit)) (stepOutputs (now (output .exit)) (now (presentkey .exit)) (now (presentvalue .exit)) (now (work .exit))) ≡ returnedOf (stepOf (callOf (now (numbers .entry)) scale) (stepInputs (now (query .entry)) (now (key .entry)) (now (value .entry)) (now (pastkey .entry)) (now (pastvalue .entry))) (stepOutputs (now (output .entry)) (now (presentkey .entry)) (now (presentvalue .entry)) (now (work .entry)))) ⌝ }
+    ensures { λ r. ⌜ returned r (now (tensor .exit)) (now (index .exit)) (now (total .exit)) (now (masked .exit)) (stepOutputs (now (output .exit)) (now (presentkey .exit)) (now (presentvalue .exit)) (now (work .exit))) ≡ returnedOf (stepOf (callOf (now (numbers .entry)) scale softcap) (stepInputs (now (query .entry)) (now (key .entry)) (now (value .entry)) (now (pastkey .entry)) (now (pastvalue .entry))) (stepOutputs (now (output .entry)) (now (presentkey .entry)) (now (presentvalue .entry)) (now (work .entry)))) ⌝ }
 {
-    let call = decode(numbers, scale);
+    let call = decode(numbers, scale, softcap);
     let answer = step::step(
         call,
         query,

@@ -1,14 +1,14 @@
 -- A mask whose cells for a row start at an index, with a last dimension that is repeated or not: which positions it admits, and what it does to the row's scores. Assumes nothing.
 use mathlib.Core.Path.{_≡_, refl, sym, ap, _∙_}
 use mathlib.Core.Bool.{Bool}
-use mathlib.Core.List.{List, [], _∷_, map}
+use mathlib.Core.List.{List, map}
 use Prim.Native.Nat.{ℕ, _+_}
 use native.Mathlib.Nat.{add-zero}
 use lib.ListN.{length, getD}
 use lib.Ieee.{Float, nan}
 use borrow.Author.Tests.{eq-eqb, ne-eqb}
 use Rattle.tensor_laws.specs.Layout.{tabulate}
-use Rattle.tensor_laws.proofs.Tabulate.{length-tabulate, getD-tabulate, tabulate-ext, tabulate-getD}
+use Rattle.tensor_laws.proofs.Tabulate.{length-tabulate, getD-tabulate, tabulate-ext, tabulate-getD, map-elements}
 use Rattle.softmax.specs.Lists.{elementOf}
 use Rattle.call.specs.declared.MaskKind.{MaskKind}
 use Rattle.call.specs.declared.MaskKind.the-variants.{NoMask, Boolean, Float as FloatMask}
@@ -27,12 +27,6 @@ repeated-one width j e = rw (eq-eqb width 1 e)
 -- any other dimension is read at the position
 pub repeated-full : (width j : ℕ) → (width ≡ 1 → ⊥) → repeated width j ≡ j
 repeated-full width j n = rw (ne-eqb width 1 n)
-
--- a list mapped is the list of its mapped elements
-map-tabulated : {A B : Type 0} (g : A → B) (d : A) (l : List A) → map g l ≡ tabulate (length l) (λ k. g (getD l k d))
-unfolding tabulate
-map-tabulated g d [] = refl
-map-tabulated {B = B} g d (x ∷ l) = ap (λ (r : List B). g x ∷ r) (map-tabulated g d l)
 
 -- the row keeps its length
 pub length-masked : (kind : MaskKind) (bytes : List ℕ) (cells : List Float) (index : ℕ → ℕ) (row : List Float) → length (maskedRowBy kind bytes cells index row) ≡ length row
@@ -57,7 +51,7 @@ unfolding maskedRowBy
 masked-repeated kind bytes cells at width row e =
     let each : ℕ → ℕ → Float = λ i j. maskedBy kind bytes cells i (elementOf row j) in
     tabulate-ext (length row) (λ j. each (at + repeated width j) j) (λ j. each at j) (λ j l. ap (λ (i : ℕ). each i j) (ap (λ (x : ℕ). at + x) (repeated-one width j e) ∙ add-zero at))
-    ∙ sym (map-tabulated (maskedBy kind bytes cells at) nan row)
+    ∙ sym (map-elements (maskedBy kind bytes cells at) nan row)
 
 -- what the mask does to a score at an index of its part that starts at `at`
 masked-in-part : (kind : MaskKind) (bytes : List ℕ) (cells : List Float) (at j : ℕ) (s : Float) → maskedBy kind (partOf at bytes) (partOf at cells) j s ≡ maskedBy kind bytes cells (at + j) s

@@ -1,4 +1,4 @@
--- What the steps of a row do to its lists: the run of positions that it may see, the mask on a row of scores, the scores shown, and the weighted sum over the positions that the mask leaves. Definitions only.
+-- What the steps of a row do to its lists: the run of positions that it may see, the mask and the cap on a row of scores, the scores shown, and the weighted sum over the positions that the mask leaves. Definitions only.
 use mathlib.Core.Path.{_≡_}
 use mathlib.Core.Bool.{Bool, true, false, not, _&&_, cond}
 use mathlib.Core.List.{List, _++_}
@@ -10,6 +10,7 @@ use Rattle.tensor_laws.specs.Layout.{tabulate}
 use Rattle.exponential.specs.ExpNeg.{plusZero}
 use Rattle.softmax.specs.Row.{addWhere}
 use Rattle.softmax.specs.Lists.{elementOf, hidden, isHidden, softmaxRowOf, maskedRowOf}
+use Rattle.softmax.specs.Cap.{cappedRowWhere}
 use Rattle.call.specs.declared.Call.{Call}
 use Rattle.call.specs.declared.MaskKind.{MaskKind}
 use Rattle.call.specs.declared.MaskKind.the-variants.{NoMask, Boolean, Float as FloatMask}
@@ -78,13 +79,18 @@ abbrev pub shownWhere : Bool → Float → List Float → List Float → List Fl
 shownWhere true rest row shown = paddedTo (length shown) rest row
 shownWhere false rest row shown = shown
 
--- ---- softmax
+-- ---- the cap, and softmax
 
--- Steps 2 to 4 leave the weights of the scores under the mask and +0 behind them, n elements in all, and tell whether the scores are fully masked; modes 1 and 2 show the scores under the mask, and mode 3 the weights.
-pub record SoftmaxDone (mode : ScoreMode) (scores shown₀ : List Float) (n : ℕ) (shown work : List Float) (masked : Bool) : Type 0 where
-  pub weights : work ≡ paddedTo n plusZero (softmaxRowOf scores)
-  pub blind : masked ≡ maskedRowOf scores
-  pub shows : shown ≡ shownWhere (showsOf mode 3 3) plusZero work (shownWhere (showsOf mode 1 2) hidden scores shown₀)
+-- Step 2 and the cap leave the scores under both; mode 1 shows the scores under the mask, and mode 2 those under the cap.
+pub record CapDone (mode : ScoreMode) (softcap : Float) (masked shown₀ shown row : List Float) : Type 0 where
+  pub scores : row ≡ cappedRowWhere softcap masked
+  pub shows : shown ≡ shownWhere (showsOf mode 2 2) hidden (cappedRowWhere softcap masked) (shownWhere (showsOf mode 1 1) hidden masked shown₀)
+
+-- Steps 2 to 4 leave the weights of the scores under the mask and the cap and +0 behind them, n elements in all, and tell whether the scores are fully masked; mode 3 shows the weights.
+pub record SoftmaxDone (mode : ScoreMode) (softcap : Float) (masked shown₀ : List Float) (n : ℕ) (shown work : List Float) (blind : Bool) : Type 0 where
+  pub weights : work ≡ paddedTo n plusZero (softmaxRowOf (cappedRowWhere softcap masked))
+  pub told : blind ≡ maskedRowOf (cappedRowWhere softcap masked)
+  pub shows : shown ≡ shownWhere (showsOf mode 3 3) plusZero work (shownWhere (showsOf mode 2 2) hidden (cappedRowWhere softcap masked) (shownWhere (showsOf mode 1 1) hidden masked shown₀))
 
 -- ---- the weighted sum
 

@@ -1,4 +1,4 @@
-// The steps of one row of attention on its lists: the run of positions that it may see, the mask, the scores shown, and the weighted sum over the positions that the mask leaves.
+// The steps of one row of attention on its lists: the run of positions that it may see, the mask and the cap, the scores shown, and the weighted sum over the positions that the mask leaves.
 ghost use mathlib.Core.Path.{_≡_};
 ghost use Prim.Native.Nat.{ℕ, _+_, _*_, _≤_, _<_};
 ghost use mathlib.Core.Bool.{true};
@@ -7,10 +7,11 @@ ghost use lib.Dec.{T};
 ghost use lib.ListN.{length, take};
 ghost use lib.Ieee.{binary32, add};
 ghost use Rattle.softmax.specs.Lists.{elementOf, isScoreRow};
+ghost use Rattle.softmax.specs.Cap.{cappedRowWhere};
 ghost use Rattle.call.specs.Lengths.{inScores};
 ghost use Rattle.call.specs.Limits.{limitsHold, maskShapeHolds};
 ghost use Rattle.attention.specs.Admission.{repeated};
-ghost use Rattle.row_steps.specs.Steps.{visibleOf, maskStart, maskHas, admittedBy, maskedRowBy, maskRowFits, showsOf, shownWhere, SoftmaxDone, RunEnd, addedRowOf};
+ghost use Rattle.row_steps.specs.Steps.{visibleOf, maskStart, maskHas, admittedBy, maskedRowBy, maskRowFits, showsOf, shownWhere, CapDone, SoftmaxDone, RunEnd, addedRowOf};
 use call::Call;
 use call::MaskKind;
 use call::ScoreMode;
@@ -167,30 +168,57 @@ pub fn mask_row(
     }
 }
 
-// Steps 2 to 4 on a scratch row whose first n elements are scores: the mask on them, softmax, and +0 behind. The scores under the mask are shown in modes 1 and 2, and the weights in mode 3. Tells whether the row is fully masked.
+// Step 2 on a row of scores, and then the cap. The scores under the mask are shown in mode 1, and those under the cap in mode 2.
+fn mask_and_cap(
+    kind: MaskKind,
+    bytes: &[u8],
+    cells: &[f32],
+    at: usize,
+    width: usize,
+    softcap: f32,
+    mode: ScoreMode,
+    shown: &mut [f32],
+    row: &mut [f32],
+)
+    requires { ⌜ maskRowFits kind (length (now bytes)) (length (now cells)) at width (length (now row)) ⌝ }
+    requires { ⌜ ((low high : ℕ) → showsOf mode low high ≡ true → length (now row) ≤ length (now shown)) ⌝ }
+    ensures { λ _. ⌜ CapDone mode softcap (maskedRowBy kind (now (bytes .entry)) (now (cells .entry)) (λ j. at + repeated width j) (now (row .entry))) (now (shown .entry)) (now (shown .exit)) (now (row .exit)) ⌝ }
+{
+    mask_row(kind, bytes, cells, at, width, row);
+    show(shows(mode, 1, 1), row, -f32::from_bits(0x7f800000), shown);
+    score_cap::cap_row(row, softcap);
+    show(shows(mode, 2, 2), row, -f32::from_bits(0x7f800000), shown);
+}
+
+// Steps 2 to 4 on a scratch row whose first n elements are scores: the mask and the cap on them, softmax, and +0 behind. The scores under the mask are shown in mode 1, those under the cap in mode 2, and the weights in mode 3. Tells whether the row is fully masked.
 pub fn softmax_masked(
     kind: MaskKind,
     bytes: &[u8],
     cells: &[f32],
     at: usize,
     width: usize,
+    softcap: f32,
     mode: ScoreMode,
     n: usize,
     shown: &mut [f32],
     work: &mut [f32],
 ) -> bool
     requires { ⌜ maskRowFits kind (length (now bytes)) (length (now cells)) at width n ⌝ }
-    requires { ⌜ T (isScoreRow (maskedRowBy kind (now bytes) (now cells) (λ j. at + repeated width j) (take n (now work)))) ⌝ }
+    requires { ⌜ T (isScoreRow (cappedRowWhere softcap (maskedRowBy kind (now bytes) (now cells) (λ j. at + repeated width j) (take n (now work))))) ⌝ }
     requires { ⌜ (n ≤ length (now work)) × (length (now work) ≤ 2048) ⌝ }
     requires { ⌜ length (now shown) ≡ inScores mode (length (now work)) ⌝ }
-    ensures { λ r. ⌜ SoftmaxDone mode (maskedRowBy kind (now (bytes .entry)) (now (cells .entry)) (λ j. at + repeated width j) (take n (now (work .entry)))) (now (shown .entry)) (length (now (work .entry))) (now (shown .exit)) (now (work .exit)) r ⌝ }
+    ensures { λ r. ⌜ SoftmaxDone mode softcap (maskedRowBy kind (now (bytes .entry)) (now (cells .entry)) (λ j. at + repeated width j) (take n (now (work .entry)))) (now (shown .entry)) (length (now (work .entry))) (now (shown .exit)) (now (work .exit)) r ⌝ }
 {
-    mask_row(kind, bytes, cells, at, width, &mut work[..n]);
-    show(
-        shows(mode, 1, 2),
-        &work[..n],
-        -f32::from_bits(0x7f800000),
+    mask_and_cap(
+        kind,
+        bytes,
+        cells,
+        at,
+        width,
+        softcap,
+        mode,
         shown,
+        &mut work[..n],
     );
     let masked = softmax::softmax_row(&mut work[..n]);
     softmax::fill_row(&mut work[n..], 0.0);

@@ -1,4 +1,4 @@
--- One row of an accepted call put together from its steps: what step 1 leaves are the scores of the formula, under the mask they are its marked scores, and what the later steps leave is the row. Assumes nothing.
+-- One row of an accepted call put together from its steps: what step 1 leaves are the scores of the formula, under the mask and under the cap they are its marked scores, and what the later steps leave is the row. Assumes nothing.
 use mathlib.Core.Path.{_≡_, refl, sym, ap, _∙_, subst}
 use mathlib.Core.Bool.{Bool, true, false, cond}
 use mathlib.Core.List.{List}
@@ -14,7 +14,9 @@ use Rattle.tensor_laws.proofs.Tabulate.{length-tabulate, getD-tabulate, tabulat
 use Rattle.exponential.specs.ExpNeg.{plusZero}
 use Rattle.softmax.specs.Row.{scoreOf}
 use Rattle.softmax.specs.Lists.{elementOf, hidden, isScoreRow, softmaxRowOf, maskedRowOf}
+use Rattle.softmax.specs.Cap.{cappedRowWhere}
 use Rattle.softmax.proofs.Structure.{agree-score}
+use Rattle.softmax.proofs.Cap.{capped-marked}
 use Rattle.call.specs.declared.Call.{Call}
 use Rattle.call.specs.Limits.{totalOf}
 use Rattle.call.specs.Lengths.{inScores}
@@ -22,15 +24,15 @@ use Rattle.call.specs.Contents.{liveOf}
 use Rattle.call.specs.Tensors.{Inputs}
 use Rattle.call.proofs.Facts.{holds, settings→facts}
 use Rattle.attention.specs.Elements.{queryAt, positionCell, keyHeadOf}
-use Rattle.attention.specs.Admission.{repeated}
-use Rattle.attention.specs.Formula.{effectiveScale, dotScore, attentionWeight}
+use Rattle.attention.specs.Admission.{repeated, admits}
+use Rattle.attention.specs.Formula.{effectiveScale, dotScore, maskedScore, cappedScore, attentionWeight}
 use Rattle.attention.proofs.Facts.{live-le-total}
-use Rattle.attention.proofs.Bounded.{MaskFits}
+use Rattle.attention.proofs.Bounded.{MaskFits, admitted-finite}
 use Rattle.row_steps.specs.Steps.{visibleOf, maskStart, admittedBy, maskedBy, maskedRowBy, showsOf, paddedTo, shownWhere, addedRowOf, SoftmaxDone}
 use Rattle.row_steps.proofs.Masked.{masked-tabulated}
 use Rattle.rows.specs.Unit.{shownAt, Accepting, ScoresDone, RowDone}
 use Rattle.rows.proofs.Seen.{visible, visible-live, visible-total, marked}
-use Rattle.rows.proofs.Row.{marks, marks-scores, marks-masked, marks-weights, marks-output, shown-steps}
+use Rattle.rows.proofs.Row.{maskedMarks, marks, marks-scores, marks-masked, marks-weights, marks-output, shown-steps}
 use Rattle.rows.proofs.Ready.{accepts}
 
 -- the part of the query tensor that is the row
@@ -87,16 +89,23 @@ module _ {c : Call} {x : Inputs} {scale : Float} (r : Accepting c x scale) (fit 
         ∙ tabulate-ext n scoreAt (dotScore c x b h i) (λ j l. score-is j)
 
     -- the scores under the mask
-    pub masked-is : maskedRowBy (c .mask) (x .boolMask) (x .floatMask) (λ j. at + repeated (c .maskk) j) (take n work₁) ≡ marks (accepts r) fit b h i hb hh hi
+    masked-is : maskedRowBy (c .mask) (x .boolMask) (x .floatMask) (λ j. at + repeated (c .maskk) j) (take n work₁) ≡ maskedMarks (accepts r) fit b h i hb hh hi
     masked-is =
         ap (maskedRowBy (c .mask) (x .boolMask) (x .floatMask) (λ j. at + repeated (c .maskk) j)) first-scores
         ∙ masked-tabulated (c .mask) (x .boolMask) (x .floatMask) (λ j. at + repeated (c .maskk) j) n (dotScore c x b h i)
         ∙ (λ k. tabulate (en k) (λ j. maskedBy (c .mask) (x .boolMask) (x .floatMask) (ea k + repeated (c .maskk) j) (dotScore c x b h i j)))
         ∙ tabulate-ext (visible (accepts r) b h i hb hh hi) _ _ (λ j l. marked (accepts r) b h i hb hh hi j l)
 
+    -- the scores under the cap
+    capped-is : cappedRowWhere (c .softcap) (maskedRowBy (c .mask) (x .boolMask) (x .floatMask) (λ j. at + repeated (c .maskk) j) (take n work₁)) ≡ marks (accepts r) fit b h i hb hh hi
+    unfolding cappedScore
+    capped-is =
+        ap (cappedRowWhere (c .softcap)) masked-is
+        ∙ capped-marked (c .softcap) (visible (accepts r) b h i hb hh hi) (admits c x b h i) (maskedScore c x b h i) (λ j l. admitted-finite (accepts r) b h i hb hh hi fit j)
+
     -- they are a row of scores
-    pub masked-scores : T (isScoreRow (maskedRowBy (c .mask) (x .boolMask) (x .floatMask) (λ j. at + repeated (c .maskk) j) (take n work₁)))
-    masked-scores = subst (λ (row : List Float). T (isScoreRow row)) (sym masked-is) (marks-scores (accepts r) fit b h i hb hh hi)
+    pub capped-scores : T (isScoreRow (cappedRowWhere (c .softcap) (maskedRowBy (c .mask) (x .boolMask) (x .floatMask) (λ j. at + repeated (c .maskk) j) (take n work₁))))
+    capped-scores = subst (λ (row : List Float). T (isScoreRow row)) (sym capped-is) (marks-scores (accepts r) fit b h i hb hh hi)
 
     -- what is shown after step 1
     shown-dots : shown₁ ≡ shownWhere (showsOf (c .mode) 0 0) plusZero (tabulate (cond (showsOf (c .mode) 0 0) live (visible (accepts r) b h i hb hh hi)) (dotScore c x b h i)) shown₀
@@ -108,17 +117,17 @@ module _ {c : Call} {x : Inputs} {scale : Float} (r : Accepting c x scale) (fit 
     -- ---- after steps 2 to 4
 
     module _ (fits : length shown₀ ≡ inScores (c .mode) (totalOf c)) (shown work : List Float) (masked : Bool)
-        (t : SoftmaxDone (c .mode) (maskedRowBy (c .mask) (x .boolMask) (x .floatMask) (λ j. at + repeated (c .maskk) j) (take n work₁)) shown₁ (length work₁) shown work masked) (kept : length work₁ ≡ totalOf c) where
+        (t : SoftmaxDone (c .mode) (c .softcap) (maskedRowBy (c .mask) (x .boolMask) (x .floatMask) (λ j. at + repeated (c .maskk) j) (take n work₁)) shown₁ (length work₁) shown work masked) (kept : length work₁ ≡ totalOf c) where
       weights-are : work ≡ tabulate (totalOf c) (attentionWeight c x b h i)
       weights-are =
           t .weights
-          ∙ (λ k. paddedTo (kept k) plusZero (softmaxRowOf (masked-is k)))
+          ∙ (λ k. paddedTo (kept k) plusZero (softmaxRowOf (capped-is k)))
           ∙ marks-weights (accepts r) fit b h i hb hh hi
 
       shown-are : shown ≡ tabulate (inScores (c .mode) (totalOf c)) (shownAt (c .mode) c x b h i)
       shown-are =
           t .shows
-          ∙ (λ k. shownWhere (showsOf (c .mode) 3 3) plusZero (weights-are k) (shownWhere (showsOf (c .mode) 1 2) hidden (masked-is k) (shown-dots k)))
+          ∙ (λ k. shownWhere (showsOf (c .mode) 3 3) plusZero (weights-are k) (shownWhere (showsOf (c .mode) 2 2) hidden (capped-is k) (shownWhere (showsOf (c .mode) 1 1) hidden (masked-is k) (shown-dots k))))
           ∙ shown-steps (accepts r) fit b h i hb hh hi (c .mode) (holds (settings→facts c (accepts r .settings) .mode)) shown₀ fits plusZero
 
       weight-at : (j : ℕ) → j < visible (accepts r) b h i hb hh hi → elementOf (take n work) j ≡ attentionWeight c x b h i j
@@ -141,5 +150,5 @@ module _ {c : Call} {x : Inputs} {scale : Float} (r : Accepting c x scale) (fit 
             ∙ marks-output (accepts r) fit b h i hb hh hi (take n work) weight-at;
         scores = shown-are;
         weights = weights-are;
-        blind = t .blind ∙ ap maskedRowOf masked-is ∙ marks-masked (accepts r) fit b h i hb hh hi;
+        blind = t .told ∙ ap maskedRowOf capped-is ∙ marks-masked (accepts r) fit b h i hb hh hi;
       }

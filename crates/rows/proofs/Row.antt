@@ -1,4 +1,4 @@
--- The lists of a row of an accepted call as its steps leave them: its scores under the mask are a row of scores, and its weights, whether it is fully masked, its output and what is shown of it are the formula's. Assumes nothing.
+-- The lists of a row of an accepted call as its steps leave them: its scores under the mask and the cap are a row of scores, and its weights, whether it is fully masked, its output and what is shown of it are the formula's. Assumes nothing.
 use mathlib.Core.Path.{_≡_, refl, sym, ap, _∙_}
 use mathlib.Core.List.{List, [], _∷_, _++_}
 use Prim.Native.Nat.{ℕ, zero, suc, _+_, _-_, _≤_, _<_}
@@ -30,9 +30,9 @@ use Rattle.call.specs.Contents.{liveOf}
 use Rattle.call.proofs.Accepted.{Accepts}
 use Rattle.attention.specs.Elements.{keyHeadOf, valueAt}
 use Rattle.attention.specs.Admission.{repeated, admits}
-use Rattle.attention.specs.Formula.{dotScore, maskedScore, attentionWeight, attentionOutput, rowMasked, shownScore}
+use Rattle.attention.specs.Formula.{dotScore, maskedScore, cappedScore, attentionWeight, attentionOutput, rowMasked, shownScore}
 use Rattle.attention.proofs.Facts.{live-le-total}
-use Rattle.attention.proofs.Bounded.{MaskFits, admitted-finite}
+use Rattle.attention.proofs.Bounded.{MaskFits, capped-score-finite}
 use Rattle.row_steps.specs.Steps.{maskStart, admittedBy, showsOf, paddedTo, shownWhere, addedRowOf}
 use Rattle.row_steps.proofs.Added.{added-row-agree, added-row-output}
 use Rattle.rows.specs.Unit.{shownAt}
@@ -76,29 +76,35 @@ finite-seen (inf s) f = absurd f
 finite-seen (fin s m e) f = refl
 
 module _ {c : Call} {x : Inputs} {y : Outputs} (a : Accepts c x y) (fit : MaskFits x) (b h i : ℕ) (hb : b < c .batches) (hh : h < c .qheads) (hi : i < c .qlen) where
-  -- the score of a position after step 2, and the mark of a hidden position where it is not seen
-  abbrev pub mark : ℕ → Float
-  mark j = cond (admits c x b h i j) (maskedScore c x b h i j) hidden
+  -- a score of a position, and the mark of a hidden position where it is not seen
+  abbrev pub marked : (ℕ → Float) → ℕ → Float
+  marked score j = cond (admits c x b h i j) (score j) hidden
 
-  -- the same of the visible positions
+  -- the same of the visible positions: the scores under the mask, and those under the cap
+  abbrev pub maskedMarks : List Float
+  maskedMarks = tabulate (visible a b h i hb hh hi) (marked (maskedScore c x b h i))
+
+  abbrev pub mark : ℕ → Float
+  mark = marked (cappedScore c x b h i)
+
   abbrev pub marks : List Float
   marks = tabulate (visible a b h i hb hh hi) mark
 
-  by-seen : (P : Bool → Float → Type 0) (j : ℕ) → (admits c x b h i j ≡ true → T (finite (maskedScore c x b h i j)) → P true (maskedScore c x b h i j)) → P false hidden → P (admits c x b h i j) (mark j)
+  by-seen : (P : Bool → Float → Type 0) (j : ℕ) → (admits c x b h i j ≡ true → T (finite (cappedScore c x b h i j)) → P true (cappedScore c x b h i j)) → P false hidden → P (admits c x b h i j) (mark j)
   by-seen P j p q = go (admits c x b h i j) refl
     where
-      go : (t : Bool) → admits c x b h i j ≡ t → P t (cond t (maskedScore c x b h i j) hidden)
-      go true e = p e (admitted-finite a b h i hb hh hi fit j e)
+      go : (t : Bool) → admits c x b h i j ≡ t → P t (cond t (cappedScore c x b h i j) hidden)
+      go true e = p e (capped-score-finite a b h i hb hh hi fit j e)
       go false e = q
 
   mark-score : (j : ℕ) → T (isScore (mark j))
-  mark-score j = by-seen (λ t z. T (isScore z)) j (λ e f. finite-score (maskedScore c x b h i j) f) tt
+  mark-score j = by-seen (λ t z. T (isScore z)) j (λ e f. finite-score (cappedScore c x b h i j) f) tt
 
   mark-seen : (j : ℕ) → not (isHidden (mark j)) ≡ admits c x b h i j
-  mark-seen j = by-seen (λ t z. not (isHidden z) ≡ t) j (λ e f. finite-seen (maskedScore c x b h i j) f) refl
+  mark-seen j = by-seen (λ t z. not (isHidden z) ≡ t) j (λ e f. finite-seen (cappedScore c x b h i j) f) refl
 
-  mark-is : (j : ℕ) → admits c x b h i j ≡ true → mark j ≡ maskedScore c x b h i j
-  mark-is j e = ap (λ (t : Bool). cond t (maskedScore c x b h i j) hidden) e
+  mark-is : (j : ℕ) → admits c x b h i j ≡ true → mark j ≡ cappedScore c x b h i j
+  mark-is j e = ap (λ (t : Bool). cond t (cappedScore c x b h i j) hidden) e
 
   n : ℕ
   n = visible a b h i hb hh hi
@@ -111,7 +117,7 @@ module _ {c : Call} {x : Inputs} {y : Outputs} (a : Accepts c x y) (fit : MaskFi
   unfolding n
   below = visible-total a b h i hb hh hi
 
-  -- the scores under the mask are a row of scores
+  -- the scores under the cap are a row of scores
   pub marks-scores : T (isScoreRow marks)
   marks-scores = tabulated-scores (visible a b h i hb hh hi) mark (λ j l. mark-score j)
 
@@ -119,23 +125,23 @@ module _ {c : Call} {x : Inputs} {y : Outputs} (a : Accepts c x y) (fit : MaskFi
   pub marks-masked : maskedRowOf marks ≡ rowMasked c x b h i
   unfolding rowMasked n
   marks-masked =
-      marked-masked n mark (admits c x b h i) (maskedScore c x b h i) (λ j l. mark-seen j) (λ j l e. mark-is j e)
-      ∙ sym (cut-masked n (totalOf c) (admits c x b h i) (maskedScore c x b h i) below hides)
+      marked-masked n mark (admits c x b h i) (cappedScore c x b h i) (λ j l. mark-seen j) (λ j l e. mark-is j e)
+      ∙ sym (cut-masked n (totalOf c) (admits c x b h i) (cappedScore c x b h i) below hides)
 
-  weight-cut : (j : ℕ) → weightOf n (admits c x b h i) (maskedScore c x b h i) j ≡ attentionWeight c x b h i j
+  weight-cut : (j : ℕ) → weightOf n (admits c x b h i) (cappedScore c x b h i) j ≡ attentionWeight c x b h i j
   unfolding attentionWeight
-  weight-cut j = sym (cut-weight n (totalOf c) (admits c x b h i) (maskedScore c x b h i) j below hides)
+  weight-cut j = sym (cut-weight n (totalOf c) (admits c x b h i) (cappedScore c x b h i) j below hides)
 
   weight-hidden : (j : ℕ) → n ≤ j → j < totalOf c → plusZero ≡ attentionWeight c x b h i j
   unfolding attentionWeight
-  weight-hidden j l m = sym (hidden-weight-zero (totalOf c) (admits c x b h i) (maskedScore c x b h i) j (hides j l m))
+  weight-hidden j l m = sym (hidden-weight-zero (totalOf c) (admits c x b h i) (cappedScore c x b h i) j (hides j l m))
 
   -- its weights, and +0 behind them, are the weights of all positions
   pub marks-weights : paddedTo (totalOf c) plusZero (softmaxRowOf marks) ≡ tabulate (totalOf c) (attentionWeight c x b h i)
   unfolding n
   marks-weights =
-      ap (paddedTo (totalOf c) plusZero) (marked-weights n mark (admits c x b h i) (maskedScore c x b h i) (λ j l. mark-seen j) (λ j l e. mark-is j e))
-      ∙ padded-tabulate n (totalOf c) (weightOf n (admits c x b h i) (maskedScore c x b h i)) (attentionWeight c x b h i) plusZero below (λ j l. weight-cut j) weight-hidden
+      ap (paddedTo (totalOf c) plusZero) (marked-weights n mark (admits c x b h i) (cappedScore c x b h i) (λ j l. mark-seen j) (λ j l e. mark-is j e))
+      ∙ padded-tabulate n (totalOf c) (weightOf n (admits c x b h i) (cappedScore c x b h i)) (attentionWeight c x b h i) plusZero below (λ j l. weight-cut j) weight-hidden
 
   -- ---- the output
 
@@ -145,13 +151,13 @@ module _ {c : Call} {x : Inputs} {y : Outputs} (a : Accepts c x y) (fit : MaskFi
       ≡ tabulate (c .vsize) (attentionOutput c x b h i)
   unfolding attentionOutput n
   marks-output weights e =
-      added-row-agree n _ (admits c x b h i) (elementOf weights) (weightOf n (admits c x b h i) (maskedScore c x b h i)) (valueAt c x b (keyHeadOf c h)) (valueAt c x b (keyHeadOf c h)) (replicate (c .vsize) plusZero)
+      added-row-agree n _ (admits c x b h i) (elementOf weights) (weightOf n (admits c x b h i) (cappedScore c x b h i)) (valueAt c x b (keyHeadOf c h)) (valueAt c x b (keyHeadOf c h)) (replicate (c .vsize) plusZero)
       (λ j l. sym (admits-visible a b h i hb hh hi j l ∙ mask-admits c b h i j x)) (λ j l. e j l ∙ sym (weight-cut j)) (λ j l k m. refl)
-      ∙ added-row-output n (c .vsize) (admits c x b h i) (weightOf n (admits c x b h i) (maskedScore c x b h i)) (valueAt c x b (keyHeadOf c h))
+      ∙ added-row-output n (c .vsize) (admits c x b h i) (weightOf n (admits c x b h i) (cappedScore c x b h i)) (valueAt c x b (keyHeadOf c h))
       ∙ tabulate-ext (c .vsize) _ _
       (λ k l.
       let value : ℕ → Float = λ j. valueAt c x b (keyHeadOf c h) j k in
-      sym (row-output n (admits c x b h i) (maskedScore c x b h i) value) ∙ sym (cut-output n (totalOf c) (admits c x b h i) (maskedScore c x b h i) value below hides))
+      sym (row-output n (admits c x b h i) (cappedScore c x b h i) value) ∙ sym (cut-output n (totalOf c) (admits c x b h i) (cappedScore c x b h i) value below hides))
 
   -- ---- what is shown
 
@@ -164,23 +170,23 @@ module _ {c : Call} {x : Inputs} {y : Outputs} (a : Accepts c x y) (fit : MaskFi
       (λ j l. ap (λ (t : Bool). cond t (dotScore c x b h i j) plusZero) (sym (lt-ltb j live l)))
       (λ j l m. ap (λ (t : Bool). cond t (dotScore c x b h i j) plusZero) (sym (le-ltb j live l)))
 
-  shown-marks : paddedTo (totalOf c) hidden marks ≡ tabulate (totalOf c) mark
+  shown-marks : (score : ℕ → Float) → paddedTo (totalOf c) hidden (tabulate (visible a b h i hb hh hi) (marked score)) ≡ tabulate (totalOf c) (marked score)
   unfolding n
-  shown-marks = padded-tabulate n (totalOf c) mark mark hidden below (λ j l. refl) (λ j l m. ap (λ (t : Bool). cond t (maskedScore c x b h i j) hidden) (sym (hides j l m)))
+  shown-marks score = padded-tabulate n (totalOf c) (marked score) (marked score) hidden below (λ j l. refl) (λ j l m. ap (λ (t : Bool). cond t (score j) hidden) (sym (hides j l m)))
 
   -- a row that is as long as what it is shown in
   shown-whole : (f : ℕ → Float) (z : Float) → paddedTo (totalOf c) z (tabulate (totalOf c) f) ≡ tabulate (totalOf c) f
   shown-whole f z = padded-tabulate (totalOf c) (totalOf c) f f z (le-refl (totalOf c)) (λ j l. refl) (λ j l m. absurd (omega arith))
 
-  -- the scores shown after the three steps that may show them: the scores of step 1, those under the mask, the weights
+  -- the scores shown after the four steps that may show them: the scores of step 1, those under the mask, those under the cap, the weights
   pub shown-steps : (mode : ScoreMode) → T (modeAllowed mode) → (shown : List Float) → length shown ≡ inScores mode (totalOf c) → (z : Float)
-      → shownWhere (showsOf mode 3 3) z (tabulate (totalOf c) (attentionWeight c x b h i)) (shownWhere (showsOf mode 1 2) hidden marks (shownWhere (showsOf mode 0 0) plusZero (tabulate (cond (showsOf mode 0 0) live (visible a b h i hb hh hi)) (dotScore c x b h i)) shown))
+      → shownWhere (showsOf mode 3 3) z (tabulate (totalOf c) (attentionWeight c x b h i)) (shownWhere (showsOf mode 2 2) hidden marks (shownWhere (showsOf mode 1 1) hidden maskedMarks (shownWhere (showsOf mode 0 0) plusZero (tabulate (cond (showsOf mode 0 0) live (visible a b h i hb hh hi)) (dotScore c x b h i)) shown)))
       ≡ tabulate (inScores mode (totalOf c)) (shownAt mode c x b h i)
   unfolding tabulate
   shown-steps NoScores t [] e z = refl
   shown-steps NoScores t (s ∷ shown) e z = absurd (omega arith)
   shown-steps (Mode zero) t shown e z = ap (λ (m : ℕ). paddedTo m plusZero (tabulate live (dotScore c x b h i))) e ∙ shown-dots
-  shown-steps (Mode (suc zero)) t shown e z = ap (λ (m : ℕ). paddedTo m hidden marks) e ∙ shown-marks
-  shown-steps (Mode (suc (suc zero))) t shown e z = ap (λ (m : ℕ). paddedTo m hidden marks) e ∙ shown-marks
+  shown-steps (Mode (suc zero)) t shown e z = ap (λ (m : ℕ). paddedTo m hidden maskedMarks) e ∙ shown-marks (maskedScore c x b h i)
+  shown-steps (Mode (suc (suc zero))) t shown e z = ap (λ (m : ℕ). paddedTo m hidden marks) e ∙ shown-marks (cappedScore c x b h i)
   shown-steps (Mode (suc (suc (suc zero)))) t shown e z = ap (λ (m : ℕ). paddedTo m z (tabulate (totalOf c) (attentionWeight c x b h i))) e ∙ shown-whole (attentionWeight c x b h i) z
   shown-steps (Mode (suc (suc (suc (suc m))))) t shown e z = let l : suc (suc (suc (suc m))) ≤ 3 = leb→le (suc (suc (suc (suc m)))) 3 t in absurd (omega arith)

@@ -1,4 +1,4 @@
-// The rows of one query head: scores, mask, softmax and weighted sum, each row read and written where it stands.
+// The rows of one query head: scores, mask, cap, softmax and weighted sum, each row read and written where it stands.
 ghost use mathlib.Core.Path.{_≡_};
 ghost use mathlib.Core.Bool.{true, cond};
 ghost use Prim.Native.Nat.{ℕ, _+_, _/_, _-_, _≤_, _<_};
@@ -302,6 +302,7 @@ fn attend_row<'a>(
         floatmask,
         at,
         call.maskk,
+        call.softcap,
         mode,
         n,
         shown,

@@ -25,7 +25,7 @@ plain-before s history ps some p =
     record {
       limited = record { dimensions = p .limited .dimensions; some = some; total = omega arith };
       groups = groups-same (plainCall s history) (plainCall s (history ++ ps)) refl refl ∙ p .groups;
-      settings = settings-same (plainCall s history) (plainCall s (history ++ ps)) refl refl refl refl ∙ p .settings;
+      settings = settings-same (plainCall s history) (plainCall s (history ++ ps)) refl refl refl refl refl ∙ p .settings;
       good = good-before s history ps (p .good);
     }
 

@@ -8,6 +8,7 @@ use lib.Ieee.{Float}
 use lib.ListN.{length}
 use Rattle.tensor_laws.specs.Layout.{tensorOf}
 use Rattle.softmax.specs.Row.{scoreOf, rowOutputOf}
+use Rattle.softmax.specs.Cap.{cappedWhere}
 use Rattle.softmax.proofs.Structure.{agree-output, agree-score}
 use Rattle.call.specs.declared.Call.{Call}
 use Rattle.call.specs.declared.Form.{Form}
@@ -31,7 +32,7 @@ use Rattle.sequence.proofs.Lays.{Lays, plain-lays, chunk-lays}
 abbrev rowOver : Call → List Position → (b h m k : ℕ) → Float
 rowOver s ps b h m k =
     rowOutputOf (suc m) (λ j. true)
-    (λ j. scoreOf (s .size) (λ c. positionOf ps m .query b h c) (λ c. positionOf ps j .key b (keyHeadOf s h) c) (effectiveScale s))
+    (λ j. cappedWhere (s .softcap) (scoreOf (s .size) (λ c. positionOf ps m .query b h c) (λ c. positionOf ps j .key b (keyHeadOf s h) c) (effectiveScale s)))
     (λ j. positionOf ps j .value b (keyHeadOf s h) k)
 
 -- the output of row i of a call that lays out positions is that of position P + i over them
@@ -44,13 +45,13 @@ row-output s form past n x live ps lays b h i k hb hh hi hk hg =
     let g = keyHeadOf s h in
     causal-output c x refl refl live b h i k (omega arith)
     ∙ agree-output (suc (past + i)) (λ j. true) (λ j. true)
-    (λ j. scoreOf (s .size) (queryAt c x b h i) (keyAt c x b g j) (effectiveScale c))
-    (λ j. scoreOf (s .size) (λ c. positionOf ps (past + i) .query b h c) (λ c. positionOf ps j .key b g c) (effectiveScale s))
+    (λ j. cappedWhere (s .softcap) (scoreOf (s .size) (queryAt c x b h i) (keyAt c x b g j) (effectiveScale c)))
+    (λ j. cappedWhere (s .softcap) (scoreOf (s .size) (λ c. positionOf ps (past + i) .query b h c) (λ c. positionOf ps j .key b g c) (effectiveScale s)))
     (λ j. valueAt c x b g j k) (λ j. positionOf ps j .value b g k)
     (λ j l. refl)
-    (λ j l e. agree-score (s .size) (queryAt c x b h i) (λ c. positionOf ps (past + i) .query b h c) (keyAt c x b g j) (λ c. positionOf ps j .key b g c) (effectiveScale c)
+    (λ j l e. ap (cappedWhere (s .softcap)) (agree-score (s .size) (queryAt c x b h i) (λ c. positionOf ps (past + i) .query b h c) (keyAt c x b g j) (λ c. positionOf ps j .key b g c) (effectiveScale c)
     (λ q hq. lays .query b h i q hb hh hi hq) (λ q hq. lays .key b g j q hb hg (omega arith) hq)
-    ∙ ap (scoreOf (s .size) (λ c. positionOf ps (past + i) .query b h c) (λ c. positionOf ps j .key b g c)) (scale-same c s refl refl))
+    ∙ ap (scoreOf (s .size) (λ c. positionOf ps (past + i) .query b h c) (λ c. positionOf ps j .key b g c)) (scale-same c s refl refl)))
     (λ j l e. lays .value b g j k hb hg (omega arith) hk)
 
 module _ (s : Call) (history : List Position) (r : Chunk) where

@@ -70,7 +70,7 @@ module _ (s : Call) (history : List Position) (r : Chunk) where
       record {
         limited = record { dimensions = d .dimensions; some = omega arith; total = omega arith };
         groups = groups-same (plainCall s (history ++ positionsOf s r)) c refl refl ∙ a .groups;
-        settings = settings-same (plainCall s (history ++ positionsOf s r)) c refl refl refl refl ∙ a .settings;
+        settings = settings-same (plainCall s (history ++ positionsOf s r)) c refl refl refl refl refl ∙ a .settings;
         good = good-joined s history r good
             (λ i l. record {
               query = λ b h n hb hh hn. q b h i n hb hh l hn;
@@ -92,7 +92,7 @@ module _ (s : Call) (history : List Position) (r : Chunk) where
       record {
         limits = limited→limits s Cached (length history) (lengthOf r) refl (record { dimensions = d .dimensions; some = omega arith; total = omega arith });
         groups = groups-same c (plainCall s (history ++ positionsOf s r)) refl refl ∙ p .groups;
-        settings = settings-same c (plainCall s (history ++ positionsOf s r)) refl refl refl refl ∙ p .settings;
+        settings = settings-same c (plainCall s (history ++ positionsOf s r)) refl refl refl refl refl ∙ p .settings;
         maskShape = shape-without-mask c refl;
         inputs = inputs;
         outputs = outputs;

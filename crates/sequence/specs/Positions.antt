@@ -32,6 +32,7 @@ causalCall s form past n = record {
   form = form;
   mask = NoMask;
   scale = s .scale;
+  softcap = s .softcap;
   mode = s .mode;
   rank = s .rank;
   causal = 1;

@@ -3,7 +3,7 @@ ghost use mathlib.Core.Path.{_≡_};
 ghost use mathlib.Core.Bool.{_||_, true};
 ghost use Prim.Native.Nat.{_≤_};
 ghost use lib.Dec.{eqb};
-ghost use Rattle.call.specs.Limits.{totalOf, within, pastAllowed, limitsHold, groupsHold, modeAllowed, scaleAllowed, settingsHold, dimensionsHold, maskShapeHolds};
+ghost use Rattle.call.specs.Limits.{totalOf, within, pastAllowed, limitsHold, groupsHold, modeAllowed, scaleAllowed, capAllowed, settingsHold, dimensionsHold, maskShapeHolds};
 ghost use Rattle.call.specs.Refusals.{recordVerdict};
 use call::Answer;
 use call::Call;
@@ -122,6 +122,16 @@ fn scale_allowed(scale: Scale) -> bool
     }
 }
 
+// A cap is 0 of either sign or above 0, and at most 65,536; both tests fail of a NaN.
+fn cap_allowed(cap: f32) -> bool
+    ensures { λ r. ⌜ r ≡ capAllowed cap ⌝ }
+{
+    if 0.0 <= cap {
+        return cap <= 65536.0;
+    }
+    false
+}
+
 fn settings_hold(call: Call) -> bool
     ensures { λ r. ⌜ r ≡ settingsHold call ⌝ }
 {
@@ -136,7 +146,10 @@ fn settings_hold(call: Call) -> bool
         return false;
     }
     let scale = call.scale;
-    scale_allowed(scale)
+    if !scale_allowed(scale) {
+        return false;
+    }
+    cap_allowed(call.softcap)
 }
 
 // ---- 4: the mask's dimensions

@@ -5,3 +5,4 @@ pub mod Rows
 pub mod Scores
 pub mod Softmax
 pub mod Positions
+pub mod Cap

@@ -1,6 +1,6 @@
 -- The list f 0, f 1, .. f (n - 1): its length, its elements, and when two such lists are equal. Assumes nothing.
 use mathlib.Core.Path.{_≡_, refl, sym, ap, _∙_}
-use mathlib.Core.List.{List, [], _∷_, _++_}
+use mathlib.Core.List.{List, [], _∷_, _++_, map}
 use Prim.Native.Nat.{ℕ, zero, suc, _+_, _-_, _*_, _≤_, _<_, suc-le-suc}
 use native.Mathlib.Nat.{not-suc-le-zero, le-of-suc-le-suc, zero-lt-suc, zero-add, suc-add, add-sub-of-le}
 use native.Mathlib.Omega.{arith}
@@ -48,6 +48,17 @@ pub take-tabulate : {A : Type 0} (n m : ℕ) (f : ℕ → A) → n ≤ m → tak
 take-tabulate {A} n m f h =
     ap (take n) (sym (tabulate-append n (m - n) f ∙ ap (λ (k : ℕ). tabulate k f) (add-sub-of-le h)))
     ∙ take-at (tabulate n f) (tabulate (m - n) (λ j. f (n + j))) n (length-tabulate n f)
+
+-- a list mapped, by its elements
+pub map-elements : {A B : Type 0} (g : A → B) (d : A) (l : List A) → map g l ≡ tabulate (length l) (λ k. g (getD l k d))
+unfolding tabulate
+map-elements g d [] = refl
+map-elements {B = B} g d (x ∷ l) = ap (λ (r : List B). g x ∷ r) (map-elements g d l)
+
+pub map-tabulate : {A B : Type 0} (g : A → B) (n : ℕ) (f : ℕ → A) → map g (tabulate n f) ≡ tabulate n (λ j. g (f j))
+unfolding tabulate
+map-tabulate g zero f = refl
+map-tabulate {B = B} g (suc n) f = ap (λ (r : List B). g (f 0) ∷ r) (map-tabulate g n (λ k. f (suc k)))
 
 -- a list of no elements
 pub none-long : {A : Type 0} (t : List A) → length t ≡ 0 → t ≡ []

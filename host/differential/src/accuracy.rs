@@ -2,7 +2,10 @@
 //!
 //! With u = 2^-24, for a row of T positions and size D:
 //! - a score lies within ((D + 3) u) · (scale Σ|q k| + |mask|) of the formula's, and D + 2 least steps for underflow;
-//!   the greatest of these over the seen keys is δ;
+//! - under a cap c, a score within ε of the formula's s gives one within ε / cosh²(z), z = max(0, |s| - ε) / c, where the
+//!   formula is steepest; with a = |s| / c, g has the relative error 6 u + 8 u a, which is at most 6 u in t, and the four
+//!   operations after it add at most 4 u: together 10 u c, and c + 2 least steps for underflow;
+//! - the greatest of these over the seen keys is δ;
 //! - E of a key whose score is d below the greatest has the relative error ρ = e^(2δ + 3 u d) - 1 + 6 u, and is 0 only
 //!   where it is below 2^-119;
 //! - a weight w has the relative error ρ + R + 2 u, R = Σ w ρ + T u + T 2^-119, for the sum;
@@ -27,12 +30,15 @@ pub struct Accuracy {
     /// below 1e-30 (so that it isn't underflow that shows).
     pub output_error: f64,
     pub output_error_call: u64,
-    /// The same over the rows whose scores have scale Σ|q k| + |mask| at most 16.
+    /// The same over the rows without a cap whose scores have scale Σ|q k| + |mask| at most 16.
     pub ordinary_error: f64,
     pub ordinary_error_call: u64,
     /// |weight - formula| over the rows with R below a thousandth.
     pub weight_error: f64,
     pub weight_error_call: u64,
+    /// |score - formula| / c over the scores after a cap c whose bound before it is at most u c.
+    pub capped_error: f64,
+    pub capped_error_call: u64,
     /// The largest part of its bound that an output used.
     pub bound_used: f64,
     pub bound_used_call: u64,
@@ -46,6 +52,7 @@ impl Accuracy {
             (&mut self.output_error, &mut self.output_error_call, other.output_error, other.output_error_call),
             (&mut self.ordinary_error, &mut self.ordinary_error_call, other.ordinary_error, other.ordinary_error_call),
             (&mut self.weight_error, &mut self.weight_error_call, other.weight_error, other.weight_error_call),
+            (&mut self.capped_error, &mut self.capped_error_call, other.capped_error, other.capped_error_call),
             (&mut self.bound_used, &mut self.bound_used_call, other.bound_used, other.bound_used_call),
         ] {
             if theirs > *mine {
@@ -80,13 +87,21 @@ impl Check<'_> {
         ROOM * ((terms + 3.0) * U * (row.product_sizes[j] + bias) + (terms * 1024.0 + 2.0) * LEAST)
     }
 
+    /// After the cap, and the same without one.
+    fn capped_bound(&self, row: &Row, j: usize) -> f64 {
+        let before = self.score_bound(row, j);
+        let Some(cap) = self.textbook.cap else { return before };
+        let near = ((row.products[j] + row.biases[j]).abs() - before).max(0.0) / cap;
+        before / near.cosh().powi(2) + ROOM * (10.0 * U * cap + (cap + 2.0) * LEAST)
+    }
+
     fn relative(&self, row: &Row) -> Relative {
         let seen = |j: &usize| row.biases[*j] != f64::NEG_INFINITY;
         let live = row.products.len();
-        let delta = (0..live).filter(seen).map(|j| self.score_bound(row, j)).fold(0.0, f64::max);
+        let delta = (0..live).filter(seen).map(|j| self.capped_bound(row, j)).fold(0.0, f64::max);
         let keys: Vec<f64> = (0..live)
             .map(|j| {
-                let below = row.greatest - (row.products[j] + row.biases[j]);
+                let below = row.greatest - row.scores[j];
                 if seen(&j) && row.weights[j] > 0.0 { (2.0 * delta + 3.0 * U * below).exp_m1() + 6.0 * U } else { 0.0 }
             })
             .collect();
@@ -96,23 +111,32 @@ impl Check<'_> {
     }
 
     /// The scores shown in modes 0 to 2 are within their bound.
-    fn scores(&self, row: &Row, shown: &[u32]) -> Result<(), String> {
+    fn scores(&mut self, row: &Row, shown: &[u32]) -> Result<(), String> {
         for (j, &bits) in shown.iter().enumerate() {
-            let want = match (row.products.get(j), self.record.score_mode) {
-                (Some(product), 0) => *product,
-                (Some(product), _) => product + row.biases[j],
-                (None, 0) => 0.0,
-                (None, _) => f64::NEG_INFINITY,
+            let (want, bound) = match (row.products.get(j), self.record.score_mode) {
+                (Some(product), 0) => (*product, self.score_bound(row, j)),
+                (Some(product), 1) => (product + row.biases[j], self.score_bound(row, j)),
+                (Some(_), _) => (row.scores[j], self.capped_bound(row, j)),
+                (None, 0) => (0.0, 0.0),
+                (None, _) => (f64::NEG_INFINITY, 0.0),
             };
-            let fits = match row.products.get(j) {
-                Some(_) if want.is_finite() => (value(bits) - want).abs() <= self.score_bound(row, j),
-                _ => value(bits) == want,
-            };
+            let error = (value(bits) - want).abs();
+            let fits = if want.is_finite() { error <= bound } else { value(bits) == want };
             if !fits {
-                return Err(format!("score {j} is {:e}, the formula has {want:e}", value(bits)));
+                return Err(format!("score {j} is {:e}, the formula has {want:e}, the bound is {bound:e}", value(bits)));
+            }
+            if self.record.score_mode == 2 && want.is_finite() {
+                self.note_capped(row, j, error);
             }
         }
         Ok(())
+    }
+
+    fn note_capped(&mut self, row: &Row, j: usize, error: f64) {
+        let Some(cap) = self.textbook.cap else { return };
+        if self.score_bound(row, j) <= U * cap && error / cap > self.accuracy.capped_error {
+            (self.accuracy.capped_error, self.accuracy.capped_error_call) = (error / cap, self.number);
+        }
     }
 
     fn weights(&mut self, row: &Row, relative: &Relative, shown: &[u32]) -> Result<(), String> {
@@ -135,9 +159,10 @@ impl Check<'_> {
         let [batch, head, _] = place;
         let (head, total) = (self.textbook.key_head(head), row.weights.len() as f64);
         let columns = shown.len();
-        let ordinary = (0..row.products.len())
+        let small = (0..row.products.len())
             .filter(|&j| row.biases[j] != f64::NEG_INFINITY)
             .all(|j| row.product_sizes[j] + row.biases[j].abs() <= 16.0);
+        let ordinary = small && self.textbook.cap.is_none();
         let (mut sizes, mut errors, mut greatest) = (vec![0.0; columns], vec![0.0; columns], 0.0f64);
         for j in 0..row.products.len() {
             if row.biases[j] == f64::NEG_INFINITY {
@@ -205,7 +230,7 @@ impl Check<'_> {
 /// Holds the outputs of an accepted call to the f64 program. `number` is the call's, for the report of the largest error.
 pub fn check(call: &Call, outputs: &Outputs, answer: &Answer, number: u64) -> Result<Accuracy, String> {
     let record = call.decoded();
-    let textbook = Textbook::new(&record, call.scale, &call.inputs);
+    let textbook = Textbook::new(&record, call.scale, call.softcap, &call.inputs);
     let mut check = Check { record, textbook, outputs, accuracy: Accuracy::default(), number };
     let (batches, heads, queries) = (record.batches as usize, record.query_heads as usize, record.query_length as usize);
     let mut masked = 0;

@@ -154,6 +154,7 @@ impl Outputs {
 pub struct Call {
     pub record: Vec<u64>,
     pub scale: u32,
+    pub softcap: u32,
     pub inputs: Inputs,
     pub outputs: Outputs,
 }
@@ -177,11 +178,12 @@ impl Call {
     pub fn describe(&self) -> String {
         let (i, o) = (&self.inputs, &self.outputs);
         format!(
-            "{:?}\n  numbers {:?}, scale bits {:08X} ({:e})\n  lengths: query {} key {} value {} boolean mask {} float mask {} \
-             past key {} past value {} live {:?}; output {} present key {} present value {} scores {} work {}",
-            self.decoded(), self.record, self.scale, f32::from_bits(self.scale), i.query.len(), i.key.len(), i.value.len(),
-            i.bool_mask.len(), i.float_mask.len(), i.past_key.len(), i.past_value.len(), i.live, o.output.len(),
-            o.present_key.len(), o.present_value.len(), o.scores.len(), o.work.len()
+            "{:?}\n  numbers {:?}, scale bits {:08X} ({:e}), softcap bits {:08X} ({:e})\n  lengths: query {} key {} value {} \
+             boolean mask {} float mask {} past key {} past value {} live {:?}; output {} present key {} present value {} \
+             scores {} work {}",
+            self.decoded(), self.record, self.scale, f32::from_bits(self.scale), self.softcap, f32::from_bits(self.softcap),
+            i.query.len(), i.key.len(), i.value.len(), i.bool_mask.len(), i.float_mask.len(), i.past_key.len(),
+            i.past_value.len(), i.live, o.output.len(), o.present_key.len(), o.present_value.len(), o.scores.len(), o.work.len()
         )
     }
 }

@@ -66,7 +66,7 @@ pub fn by_library(memory: &mut Memory, call: &Call, entry: Entry, side: Side, un
     let mut slots = memory.answer.each_mut().map(|region| &mut region.place(&[unwritten], side)[0]);
     let [tensor, index, total, masked] = &mut slots;
     let attend = if entry == Entry::Step { ffi::library_step } else { ffi::library_attention };
-    let refusal = attend(record, call.scale, &inputs, &mut outputs, AnswerSlots { tensor, index, total, masked });
+    let refusal = attend(record, call.scale, call.softcap, &inputs, &mut outputs, AnswerSlots { tensor, index, total, masked });
     let kept = record == call.record
         && inputs.query == i.query
         && inputs.key == i.key
@@ -112,7 +112,7 @@ pub fn by_reference(call: &Call, entry: Entry) -> (Answer, Outputs) {
         work: &mut o.work,
     };
     let attend = if entry == Entry::Step { ffi::reference_step } else { ffi::reference_attention };
-    let answer = attend(&call.decoded(), call.scale, &inputs, &mut outputs);
+    let answer = attend(&call.decoded(), call.scale, call.softcap, &inputs, &mut outputs);
     (answer, o)
 }
 
@@ -127,7 +127,7 @@ pub fn difference(library: &Outputs, other: &Outputs) -> Option<String> {
     None
 }
 
-fn random_side(random: &mut Random) -> Side {
+pub fn random_side(random: &mut Random) -> Side {
     if random.once_in(2) { Side::BeforeUnreadable } else { Side::AfterUnreadable }
 }
 

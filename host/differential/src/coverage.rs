@@ -7,8 +7,8 @@ use std::collections::BTreeSet;
 pub struct Coverage {
     /// Answers by number, 0 for done.
     pub answers: [u64; 10],
-    /// Form, rank, mask kind, score mode, causal and scale kind of accepted calls, together.
-    settings: BTreeSet<[u64; 6]>,
+    /// Form, rank, mask kind, score mode, causal, scale kind and whether there is a cap, of accepted calls, together.
+    settings: BTreeSet<[u64; 7]>,
     /// Which of the mask's dimensions are 1 where the full size is not, of accepted calls.
     broadcasts: BTreeSet<[bool; 4]>,
     /// The tensors named by refusal 9.
@@ -57,7 +57,8 @@ impl Coverage {
             return;
         }
         self.masked_rows += answer.masked;
-        self.settings.insert([r.form, r.rank, r.mask_kind, r.score_mode, r.causal, r.scale_kind]);
+        let cap = u64::from(f32::from_bits(call.softcap) != 0.0);
+        self.settings.insert([r.form, r.rank, r.mask_kind, r.score_mode, r.causal, r.scale_kind, cap]);
         let full = [r.batches, r.query_heads, r.query_length, r.total()];
         if r.mask_kind != NO_MASK && full.iter().all(|&n| n > 1) {
             self.broadcasts.insert(r.mask_dims.map(|dim| dim == 1));
@@ -75,7 +76,7 @@ impl Coverage {
         for (tensor, &count) in self.tensors.iter().enumerate() {
             want(count > 0, format!("refusal 9 in tensor {tensor}"));
         }
-        want(self.settings.len() == 3 * 2 * 3 * 5 * 2 * 2, format!("all settings (only {})", self.settings.len()));
+        want(self.settings.len() == 3 * 2 * 3 * 5 * 2 * 2 * 2, format!("all settings (only {})", self.settings.len()));
         want(self.broadcasts.len() == 16, format!("all broadcasts (only {})", self.broadcasts.len()));
         want(self.masked_rows > 0, "fully masked rows".to_string());
         want(self.unnamed_codes > 0, "unnamed codes".to_string());
@@ -181,7 +182,7 @@ mod tests {
                 let mut record = vec![1; RECORD_LENGTH];
                 PROFILE.iter().for_each(|&(at, _, right)| record[at] = right);
                 record[changed.0] += 1;
-                let call = Call { record, scale: 0, inputs: Inputs::default(), outputs: Outputs::default() };
+                let call = Call { record, scale: 0, softcap: 0, inputs: Inputs::default(), outputs: Outputs::default() };
                 coverage.add(&call, &Answer { refusal: 10, ..Answer::default() });
             }
             let missing = coverage.missing();

@@ -1,4 +1,4 @@
-//! The scope document's examples A to M, made by the library and by the reference.
+//! The scope document's examples A to M and examples of the score cap, made by the library and by the reference.
 
 use crate::call::*;
 use crate::compare::{compare, Memory};
@@ -46,6 +46,13 @@ impl Examples {
 
     /// What is lent for writing has these lengths.
     fn make_lending(&mut self, entry: Entry, record: Record, inputs: Inputs, lengths: &Lengths) -> Result<Shown, String> {
+        self.make_capped(entry, record, 0, inputs, lengths)
+    }
+
+    /// The same with a cap.
+    fn make_capped(
+        &mut self, entry: Entry, record: Record, softcap: u32, inputs: Inputs, lengths: &Lengths,
+    ) -> Result<Shown, String> {
         let mut noise = |length: usize| (0..length).map(|_| self.random.bits32()).collect::<Vec<_>>();
         let outputs = Outputs {
             output: noise(lengths.output),
@@ -54,7 +61,7 @@ impl Examples {
             scores: noise(lengths.scores),
             work: noise(lengths.work),
         };
-        let call = Call { record: record.numbers().to_vec(), scale: 1f32.to_bits(), inputs, outputs };
+        let call = Call { record: record.numbers().to_vec(), scale: 1f32.to_bits(), softcap, inputs, outputs };
         let left = compare(&mut self.memory, &call, entry, &mut self.random);
         let left = left.map_err(|text| format!("{text}\n  {}", call.describe()))?;
         let floats = |bits: &[u32]| bits.iter().map(|&b| f32::from_bits(b)).collect();
@@ -71,7 +78,7 @@ impl Examples {
 }
 
 fn expect(name: &str, holds: bool) -> Result<(), String> {
-    if holds { Ok(()) } else { Err(format!("example {name} does not come out as the scope document has it")) }
+    if holds { Ok(()) } else { Err(format!("example {name} does not come out as the documents have it")) }
 }
 
 /// The same bits, so that -0 differs from +0.
@@ -177,6 +184,39 @@ fn functions() -> Result<(), String> {
     Ok(())
 }
 
+/// Scores after a cap, as modes 1 and 2 show them and as the step entry weighs them; caps that are not allowed.
+fn caps(e: &mut Examples) -> Result<(), String> {
+    let least = f32::from_bits(1);
+    let cases = [
+        (6.0, 2.0, 0x3FFE_BBE9), (6.0, 4.0, 0x4067_B7CC), (-3.0, 2.0, 0xBFE7_B7CC), (3.0, 30.0, 0x403F_5CCE),
+        (-100.0, 50.0, 0xC240_CE36), (65536.0, 65536.0, 0x4742_F7D5), (20.0, 2.0, 0x4000_0000), (-20.0, 2.0, 0xC000_0000),
+        (0.0, 30.0, 0), (1.0, least, 1), (-1.0, least, 0x8000_0001), (1e-4, 65536.0, 0), (-1e-4, 65536.0, 0x8000_0000),
+        (-least, 65536.0, 0), (-least, least, 0x8000_0001), (-0.25, 0.0, 0xBE80_0000), (-0.25, -0.0, 0xBE80_0000),
+    ];
+    for (score, softcap, after) in cases {
+        let (record, inputs) = small(&[1.0], &[score], &[5.0]);
+        for (score_mode, shown) in [(0, score), (1, score), (2, f32::from_bits(after)), (3, 1.0)] {
+            let record = Record { score_mode, ..record };
+            let made = e.make_capped(Entry::General, record, f32::to_bits(softcap), inputs.clone(), &record.lengths())?;
+            expect(&format!("{score:e} under {softcap:e}"), same(&made.scores, &[shown]) && same(&made.output, &[5.0]))?;
+        }
+    }
+    let (record, mut inputs) = small(&[1.0], &[-3.0], &[4.0]);
+    inputs.past_key = vec![20f32.to_bits()];
+    inputs.past_value = vec![2f32.to_bits()];
+    let record = Record { causal: 1, form: CACHED, past: 1, score_mode: NO_SCORES, ..record };
+    for entry in [Entry::General, Entry::Step] {
+        let made = e.make_capped(entry, record, 2f32.to_bits(), inputs.clone(), &record.lengths())?;
+        let weights = [0x3F7A_745D, 0x3CB1_7476].map(f32::from_bits);
+        expect("20 and -3 under 2", same(&made.work, &weights) && same(&made.output, &[f32::from_bits(0x4002_C5D2)]))?;
+        for bad in [0x8000_0001, 0xBF80_0000, 0x4780_0001, 0x7F80_0000, 0xFF80_0000, 0x7F80_0001, 0xFFC0_1234] {
+            let made = e.make_capped(entry, record, bad, inputs.clone(), &record.lengths())?;
+            expect(&format!("a cap of {bad:08X}"), made.answer == refused(3, 0, 0))?;
+        }
+    }
+    Ok(())
+}
+
 /// I to M.
 fn edges(e: &mut Examples) -> Result<(), String> {
     let (record, inputs) = small(&[1.0; 4], &[1.0; 2], &[3.0, 5.0]);
@@ -248,6 +288,7 @@ pub fn check() -> Result<u64, String> {
     values(&mut e)?;
     near_limit(&mut e)?;
     functions()?;
+    caps(&mut e)?;
     edges(&mut e)?;
     Ok(e.made)
 }

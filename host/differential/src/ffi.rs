@@ -36,8 +36,8 @@ pub struct AnswerSlots<'a> {
 mod library {
     #[allow(improper_ctypes)]
     extern "C" {
-        pub fn klaverdomp_attention_1(
-            record: *const u64, record_len: usize, scale: f32,
+        pub fn klaverdomp_attention_2(
+            record: *const u64, record_len: usize, scale: f32, softcap: f32,
             query: *const f32, query_len: usize, key: *const f32, key_len: usize, value: *const f32, value_len: usize,
             bool_mask: *const u8, bool_mask_len: usize, float_mask: *const f32, float_mask_len: usize,
             past_key: *const f32, past_key_len: usize, past_value: *const f32, past_value_len: usize,
@@ -47,8 +47,8 @@ mod library {
             work: *mut f32, work_len: usize,
             tensor: *mut u64, index: *mut u64, total: *mut u64, masked: *mut u64,
         ) -> u32;
-        pub fn klaverdomp_step_1(
-            record: *const u64, record_len: usize, scale: f32,
+        pub fn klaverdomp_step_2(
+            record: *const u64, record_len: usize, scale: f32, softcap: f32,
             query: *const f32, query_len: usize, key: *const f32, key_len: usize, value: *const f32, value_len: usize,
             past_key: *const f32, past_key_len: usize, past_value: *const f32, past_value_len: usize,
             output: *mut f32, output_len: usize, present_key: *mut f32, present_key_len: usize,
@@ -67,6 +67,7 @@ mod reference {
     pub struct Call {
         pub numbers: [u64; 18],
         pub scale: f32,
+        pub softcap: f32,
     }
 
     #[repr(C)]
@@ -147,10 +148,12 @@ fn floats_mut(bits: &mut [u32]) -> *mut f32 {
 }
 
 /// The library's attention; the result is the number of the refusal, 0 for done.
-pub fn library_attention(record: &[u64], scale: u32, i: &InputSlices, o: &mut OutputSlices, a: AnswerSlots) -> u32 {
+pub fn library_attention(
+    record: &[u64], scale: u32, softcap: u32, i: &InputSlices, o: &mut OutputSlices, a: AnswerSlots,
+) -> u32 {
     unsafe {
-        library::klaverdomp_attention_1(
-            record.as_ptr(), record.len(), f32::from_bits(scale),
+        library::klaverdomp_attention_2(
+            record.as_ptr(), record.len(), f32::from_bits(scale), f32::from_bits(softcap),
             floats(i.query), i.query.len(), floats(i.key), i.key.len(), floats(i.value), i.value.len(),
             i.bool_mask.as_ptr(), i.bool_mask.len(), floats(i.float_mask), i.float_mask.len(),
             floats(i.past_key), i.past_key.len(), floats(i.past_value), i.past_value.len(),
@@ -164,10 +167,12 @@ pub fn library_attention(record: &[u64], scale: u32, i: &InputSlices, o: &mut Ou
 }
 
 /// The library's step; masks, live counts and scores are not lent to it.
-pub fn library_step(record: &[u64], scale: u32, i: &InputSlices, o: &mut OutputSlices, a: AnswerSlots) -> u32 {
+pub fn library_step(
+    record: &[u64], scale: u32, softcap: u32, i: &InputSlices, o: &mut OutputSlices, a: AnswerSlots,
+) -> u32 {
     unsafe {
-        library::klaverdomp_step_1(
-            record.as_ptr(), record.len(), f32::from_bits(scale),
+        library::klaverdomp_step_2(
+            record.as_ptr(), record.len(), f32::from_bits(scale), f32::from_bits(softcap),
             floats(i.query), i.query.len(), floats(i.key), i.key.len(), floats(i.value), i.value.len(),
             floats(i.past_key), i.past_key.len(), floats(i.past_value), i.past_value.len(),
             floats_mut(o.output), o.output.len(), floats_mut(o.present_key), o.present_key.len(),
@@ -186,8 +191,11 @@ fn lent_mut(bits: &mut [u32]) -> reference::LentMut {
 }
 
 /// What the reference answers to the record.
-fn reference_answer(record: &Record, scale: u32, make: impl FnOnce(&reference::Call, &mut reference::Answer)) -> Answer {
-    let call = reference::Call { numbers: record.numbers(), scale: f32::from_bits(scale) };
+fn reference_answer(
+    record: &Record, scale: u32, softcap: u32, make: impl FnOnce(&reference::Call, &mut reference::Answer),
+) -> Answer {
+    let (numbers, scale, softcap) = (record.numbers(), f32::from_bits(scale), f32::from_bits(softcap));
+    let call = reference::Call { numbers, scale, softcap };
     let mut answer = reference::Answer::default();
     make(&call, &mut answer);
     Answer {
@@ -200,7 +208,7 @@ fn reference_answer(record: &Record, scale: u32, make: impl FnOnce(&reference::C
 }
 
 /// The reference's attention.
-pub fn reference_attention(record: &Record, scale: u32, i: &InputSlices, o: &mut OutputSlices) -> Answer {
+pub fn reference_attention(record: &Record, scale: u32, softcap: u32, i: &InputSlices, o: &mut OutputSlices) -> Answer {
     let inputs = reference::Inputs {
         query: lent(i.query),
         key: lent(i.key),
@@ -219,11 +227,11 @@ pub fn reference_attention(record: &Record, scale: u32, i: &InputSlices, o: &mut
         work: lent_mut(o.work),
     };
     let make = |call: &_, answer: &mut _| unsafe { reference::reference_attention(call, &inputs, &mut outputs, answer) };
-    reference_answer(record, scale, make)
+    reference_answer(record, scale, softcap, make)
 }
 
 /// The reference's step; masks, live counts and scores are not lent to it.
-pub fn reference_step(record: &Record, scale: u32, i: &InputSlices, o: &mut OutputSlices) -> Answer {
+pub fn reference_step(record: &Record, scale: u32, softcap: u32, i: &InputSlices, o: &mut OutputSlices) -> Answer {
     let inputs = reference::StepInputs {
         query: lent(i.query),
         key: lent(i.key),
@@ -238,7 +246,7 @@ pub fn reference_step(record: &Record, scale: u32, i: &InputSlices, o: &mut Outp
         work: lent_mut(o.work),
     };
     let make = |call: &_, answer: &mut _| unsafe { reference::reference_step(call, &inputs, &mut outputs, answer) };
-    reference_answer(record, scale, make)
+    reference_answer(record, scale, softcap, make)
 }
 
 /// What a function that writes one value gave: its result and the bits of the value, whatever they were before.

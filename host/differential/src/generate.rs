@@ -1,7 +1,8 @@
-//! Random calls: every form, rank, grouping, mask, score mode and scale, elements at the limits, and faults, several at
-//! once.
+//! Random calls: every form, rank, grouping, mask, score mode, scale and kind of cap, elements at the limits, and faults,
+//! several at once.
 
 use crate::call::*;
+use crate::caps::{odd_softcap, random_softcap};
 use crate::random::Random;
 
 const TOTAL_LIMIT: u64 = 2048;
@@ -33,6 +34,7 @@ pub fn call_of(random: &mut Random, record: &Record, lengths: &Lengths) -> Call 
     Call {
         record: record.numbers().to_vec(),
         scale: random_scale(random),
+        softcap: random_softcap(random),
         inputs: random_inputs(random, record, lengths),
         outputs: random_outputs(random, lengths),
     }
@@ -431,12 +433,13 @@ fn add_fault(random: &mut Random, call: &mut Call, late_only: bool) {
     if late_only {
         return add_late_fault(random, call, Entry::General);
     }
-    match random.below(10) {
+    match random.below(11) {
         0..=2 => change_length(random, call, Entry::General),
         3..=6 => add_late_fault(random, call, Entry::General),
         7 => call.scale = odd_scale(random),
-        8 if random.once_in(4) => change_record_length(random, call),
-        8 => {}
+        8 => call.softcap = odd_softcap(random),
+        9 if random.once_in(4) => change_record_length(random, call),
+        9 => {}
         _ => {
             let at = random.index(call.record.len().max(1));
             if let Some(number) = call.record.get_mut(at) {

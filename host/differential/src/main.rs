@@ -1,6 +1,6 @@
 //! Differential tests of the static library: the scope document's examples, the exponential and the tables, random
 //! sequences, and random calls against the plain f32 reference (bit for bit) and the f64 program (within a bound). Beside
-//! each random call stands one at the step entry.
+//! each random call stands one at the step entry, and beside each of either that has a score cap the same one without it.
 //!
 //!   klaverdomp-differential [--calls N] [--seed S] [--sessions N] [--exp-stride N] [--exact FILE]
 //!   klaverdomp-differential --seed S --only K        one random call and its step again, with their parameters
@@ -11,6 +11,7 @@
 
 mod accuracy;
 mod call;
+mod caps;
 mod compare;
 mod coverage;
 mod exact;
@@ -81,6 +82,8 @@ impl Options {
 struct Tally {
     coverage: Coverage,
     steps: StepCoverage,
+    caps: caps::Reached,
+    step_caps: caps::Reached,
     accuracy: Accuracy,
 }
 
@@ -96,6 +99,8 @@ fn random_call(seed: u64, number: u64, memory: &mut Memory, tally: &mut Tally) -
     };
     let left = compare::compare(memory, &call, Entry::General, &mut random).map_err(|text| at("call", &call, text))?;
     tally.coverage.add(&call, &left.answer);
+    let capped = tally.caps.add(memory, &call, Entry::General, &left, &mut random);
+    capped.map_err(|text| at("call", &call, text))?;
     if left.answer.refusal == 0 {
         let accuracy = accuracy::check(&call, &left.outputs, &left.answer, number).map_err(|text| at("call", &call, text))?;
         tally.accuracy.join(&accuracy);
@@ -103,6 +108,8 @@ fn random_call(seed: u64, number: u64, memory: &mut Memory, tally: &mut Tally) -
     let step = steps::random_step(&mut step_random, &call);
     let left = compare::compare(memory, &step, Entry::Step, &mut step_random).map_err(|text| at("step", &step, text))?;
     tally.steps.add(&step, &left.answer);
+    let capped = tally.step_caps.add(memory, &step, Entry::Step, &left, &mut step_random);
+    capped.map_err(|text| at("step", &step, text))?;
     Ok(())
 }
 
@@ -136,11 +143,15 @@ fn say_tally(tally: &Tally, seconds: f64) {
     let accuracy = &tally.accuracy;
     println!("calls: {}; {seconds:.1} s with the steps", tally.coverage.describe());
     println!("steps: {}", tally.steps.describe());
+    println!("caps: {}", tally.caps.describe(Entry::General));
+    println!("caps of steps: {}", tally.step_caps.describe(Entry::Step));
     println!(
         "f64 program: {} rows, {} of them loose; largest output error {:.3e} of its sum of |weight * value| (call {}), \
-         {:.3e} where scores are at most 16 (call {}), largest weight error {:.3e} (call {}), largest part of the bound {:.3} (call {})",
+         {:.3e} where scores are at most 16 without a cap (call {}), largest weight error {:.3e} (call {}), largest error of a \
+         capped score {:.3e} of its cap (call {}), largest part of the bound {:.3} (call {})",
         accuracy.rows, accuracy.loose_rows, accuracy.output_error, accuracy.output_error_call, accuracy.ordinary_error,
-        accuracy.ordinary_error_call, accuracy.weight_error, accuracy.weight_error_call, accuracy.bound_used, accuracy.bound_used_call
+        accuracy.ordinary_error_call, accuracy.weight_error, accuracy.weight_error_call, accuracy.capped_error,
+        accuracy.capped_error_call, accuracy.bound_used, accuracy.bound_used_call
     );
 }
 
@@ -188,7 +199,8 @@ fn run(options: &Options) -> Result<String, String> {
         random_call(seed, number, &mut memory, &mut tally)?;
     }
     say_tally(&tally, start.elapsed().as_secs_f64());
-    reached(options.calls >= 200_000, [tally.coverage.missing(), tally.steps.missing()].concat())?;
+    let caps = [tally.caps.missing(Entry::General), tally.step_caps.missing(Entry::Step)].concat();
+    reached(options.calls >= 200_000, [tally.coverage.missing(), tally.steps.missing(), caps].concat())?;
     Ok(format!(
         "differential: {} calls compared, {} accepted, {} steps compared, {} accepted, {} chunks of {} sessions, {} values of E, \
          0 differences",

@@ -2,6 +2,7 @@
 //! call over the positions that were accepted.
 
 use crate::call::*;
+use crate::caps::{fault, odd_softcap, random_cap};
 use crate::compare::{compare, Memory};
 use crate::random::Random;
 
@@ -17,6 +18,7 @@ struct Position {
 struct Session {
     settings: Record,
     scale: u32,
+    softcap: u32,
     /// Elements are whole numbers.
     whole: bool,
     /// Of eight chunks so many have one position on purpose, and so many are given at the step entry.
@@ -39,9 +41,31 @@ pub struct Counts {
     /// Sessions with accepted chunks at both entries, and those with more than one and all at the step entry.
     pub mixed: u64,
     pub wholly_steps: u64,
+    /// Sessions with a cap, those of them at both entries, and those wholly at the step entry.
+    pub capped: u64,
+    pub capped_mixed: u64,
+    pub capped_steps: u64,
+    /// Sessions with a cap that is not allowed, in which every chunk is refused.
+    pub wholly_refused: u64,
 }
 
 impl Counts {
+    /// A session of these accepted chunks.
+    fn add(&mut self, session: &Session, chunks: &[Chunk], positions: u64) {
+        let steps = chunks.iter().filter(|chunk| chunk.entry == Entry::Step).count();
+        let mixed = u64::from(steps > 0 && steps < chunks.len());
+        let wholly_steps = u64::from(steps > 1 && steps == chunks.len());
+        let capped = u64::from(f32::from_bits(session.softcap) != 0.0);
+        self.sessions += 1;
+        self.positions += positions;
+        self.longest = self.longest.max(positions);
+        self.mixed += mixed;
+        self.wholly_steps += wholly_steps;
+        self.capped += capped;
+        self.capped_mixed += capped * mixed;
+        self.capped_steps += capped * wholly_steps;
+    }
+
     /// What was never reached.
     pub fn missing(&self) -> Vec<String> {
         let reached = [
@@ -50,6 +74,10 @@ impl Counts {
             (self.given_again, "a chunk given again at the general entry"),
             (self.mixed, "a session at both entries"),
             (self.wholly_steps, "a session wholly at the step entry"),
+            (self.capped, "a session with a cap"),
+            (self.capped_mixed, "a session with a cap at both entries"),
+            (self.capped_steps, "a session with a cap wholly at the step entry"),
+            (self.wholly_refused, "a session with a cap that is not allowed"),
         ];
         reached.iter().filter(|(count, _)| *count == 0).map(|(_, what)| what.to_string()).collect()
     }
@@ -58,9 +86,11 @@ impl Counts {
         format!(
             "{} sessions, {} chunks accepted and {} refused, {} positions, {} at most; at the step entry {} chunks accepted \
              and {} refused by 10, {} of them then accepted at the general entry; {} sessions at both entries, {} wholly at the \
-             step entry",
+             step entry; with a cap {} sessions, {} at both entries, {} wholly at the step entry, and {} with one that is not \
+             allowed",
             self.sessions, self.accepted, self.refused, self.positions, self.longest, self.steps, self.off_profile,
-            self.given_again, self.mixed, self.wholly_steps
+            self.given_again, self.mixed, self.wholly_steps, self.capped, self.capped_mixed, self.capped_steps,
+            self.wholly_refused
         )
     }
 }
@@ -130,7 +160,18 @@ impl Session {
         };
         let target = if long { 2048 } else if random.once_in(10) { random.between(1, 120) } else { random.between(1, 14) };
         let scale = random.pick(&[1f32, 0.25, 1024.0, f32::from_bits(1), 0.7]).to_bits();
-        (Session { settings, scale, whole: random.once_in(3), single, stepped }, target as usize)
+        let softcap = match random.below(32) {
+            0 => odd_softcap(random),
+            1 => (-0f32).to_bits(),
+            2..=12 => random_cap(random),
+            _ => 0,
+        };
+        (Session { settings, scale, softcap, whole: random.once_in(3), single, stepped }, target as usize)
+    }
+
+    /// Whether the settings are such that a chunk may be accepted at all.
+    fn allowed(&self) -> bool {
+        fault(self.softcap).is_none()
     }
 
     /// Where a chunk is given: one that is not of the step profile often at the step entry first and then at the general one.
@@ -161,6 +202,7 @@ impl Session {
         Call {
             record: record.numbers().to_vec(),
             scale: self.scale,
+            softcap: self.softcap,
             inputs: Inputs {
                 query: tensor(s.rank, s.batches, s.query_heads, s.size, &rows(|p| &p.query)),
                 key: tensor(s.rank, s.batches, s.key_heads, s.size, &rows(|p| &p.key)),
@@ -250,7 +292,7 @@ impl History {
         let (call, length) = (&given.call, given.positions.len());
         let left = compare(memory, call, entry, random)?;
         let off_profile = entry == Entry::Step && !call.off_profile().is_empty();
-        let entered = !off_profile && given.fault > 1 && self.book.len() + length <= 2048;
+        let entered = session.allowed() && !off_profile && given.fault > 1 && self.book.len() + length <= 2048;
         if entered != (left.answer.refusal == 0) || off_profile != (left.answer.refusal == 10) {
             return Err(format!("entered {entered}, but answered {:?}", left.answer));
         }
@@ -318,9 +360,26 @@ fn next_chunk(
     Ok(())
 }
 
+/// A session whose cap is not allowed. Whatever is given, nothing is entered.
+fn wholly_refused(
+    random: &mut Random, memory: &mut Memory, session: &Session, target: usize, counts: &mut Counts,
+) -> Result<(), String> {
+    for _ in 0..4 {
+        let most = if random.below(8) < session.single { 1 } else { target.min(9) };
+        let length = random.between(1, most as u64) as usize;
+        next_chunk(random, memory, session, &mut History::default(), length, counts)?;
+    }
+    counts.sessions += 1;
+    counts.wholly_refused += 1;
+    Ok(())
+}
+
 /// One session.
 pub fn session(random: &mut Random, memory: &mut Memory, counts: &mut Counts) -> Result<(), String> {
     let (session, target) = Session::new(random);
+    if !session.allowed() {
+        return wholly_refused(random, memory, &session, target, counts);
+    }
     let mut history = History::default();
     let most = if target > 200 { 400 } else { 1 + target as u64 / 2 };
     let mut past_limit = target == 2048;
@@ -345,11 +404,6 @@ pub fn session(random: &mut Random, memory: &mut Memory, counts: &mut Counts) ->
     if left.answer.refusal != 0 {
         return Err(format!("the plain call over the book answered {:?}\n  {}", left.answer, plain.describe()));
     }
-    counts.sessions += 1;
-    counts.positions += book.len() as u64;
-    counts.longest = counts.longest.max(book.len() as u64);
-    let steps = chunks.iter().filter(|chunk| chunk.entry == Entry::Step).count();
-    counts.mixed += u64::from(steps > 0 && steps < chunks.len());
-    counts.wholly_steps += u64::from(steps > 1 && steps == chunks.len());
+    counts.add(&session, &chunks, book.len() as u64);
     against_plain(&session, &chunks, &book, &last, &left.outputs.output).map_err(|text| format!("{text}\n  {}", plain.describe()))
 }

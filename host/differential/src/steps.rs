@@ -2,6 +2,7 @@
 //! another or that have another length, and the records of the general calls.
 
 use crate::call::*;
+use crate::caps::odd_softcap;
 use crate::generate::*;
 use crate::random::Random;
 
@@ -42,10 +43,11 @@ fn step_call(random: &mut Random, off: bool) -> Call {
     let fitted = if random.once_in(2) { &fitting } else { &record };
     let mut call = call_of(random, &record, &lengths_near(fitted, &profile));
     for _ in in_record..faults {
-        match random.below(8) {
+        match random.below(9) {
             0..=2 => change_length(random, &mut call, Entry::Step),
             3..=6 => add_late_fault(random, &mut call, Entry::Step),
-            _ => call.scale = odd_scale(random),
+            7 => call.scale = odd_scale(random),
+            _ => call.softcap = odd_softcap(random),
         }
     }
     call

@@ -1,6 +1,6 @@
-//! Attention by the textbook formula in f64: softmax(scale · Q Kᵀ + bias) V with the machine's exponential. It takes
-//! calls that are accepted, copies each tensor into its own dense [batch][head][position][size] form, and knows nothing
-//! of rounding order.
+//! Attention by the textbook formula in f64: softmax(c · tanh((scale · Q Kᵀ + bias) / c)) V, or without the cap c where there
+//! is none, with the machine's functions. It takes calls that are accepted, copies each tensor into its own dense
+//! [batch][head][position][size] form, and knows nothing of rounding order.
 
 use crate::call::*;
 
@@ -12,10 +12,12 @@ pub struct Row {
     pub product_sizes: Vec<f64>,
     /// What is added to the product; minus infinity where the position is hidden.
     pub biases: Vec<f64>,
+    /// product + bias after the cap; minus infinity where the position is hidden.
+    pub scores: Vec<f64>,
     /// The softmax over all T positions, 0 where hidden or padded.
     pub weights: Vec<f64>,
     pub output: Vec<f64>,
-    /// The greatest of product + bias, minus infinity for a row that sees nothing.
+    /// The greatest score, minus infinity for a row that sees nothing.
     pub greatest: f64,
 }
 
@@ -74,13 +76,15 @@ pub struct Textbook<'a> {
     record: Record,
     inputs: &'a Inputs,
     scale: f64,
+    /// None where the call has none.
+    pub cap: Option<f64>,
     query: Dense,
     key: Dense,
     pub value: Dense,
 }
 
 impl<'a> Textbook<'a> {
-    pub fn new(record: &Record, scale: u32, inputs: &'a Inputs) -> Textbook<'a> {
+    pub fn new(record: &Record, scale: u32, softcap: u32, inputs: &'a Inputs) -> Textbook<'a> {
         let whole = |n: u64| n as usize;
         let (batches, heads) = (whole(record.batches), whole(record.key_heads));
         let (past, fresh) = (whole(record.past), whole(record.key_length));
@@ -95,6 +99,7 @@ impl<'a> Textbook<'a> {
                 ABSENT => 1.0 / (record.size as f64).sqrt(),
                 _ => f64::from(f32::from_bits(scale)),
             },
+            cap: Some(f64::from(f32::from_bits(softcap))).filter(|cap| *cap != 0.0),
             query: Dense::new(&inputs.query, record.rank, batches, whole(record.query_heads), whole(record.query_length), size),
             key: cache(&inputs.past_key, &inputs.key, size),
             value: cache(&inputs.past_value, &inputs.value, value_size),
@@ -130,6 +135,14 @@ impl<'a> Textbook<'a> {
         }
     }
 
+    /// A hidden key's minus infinity stays.
+    fn capped(&self, score: f64) -> f64 {
+        match self.cap {
+            Some(cap) if score.is_finite() => cap * (score / cap).tanh(),
+            _ => score,
+        }
+    }
+
     pub fn row(&self, batch: usize, head: usize, query: usize) -> Row {
         let q = self.query.row(batch, head, query);
         let (live, key_head) = (self.live(batch), self.key_head(head));
@@ -137,6 +150,7 @@ impl<'a> Textbook<'a> {
             products: Vec::with_capacity(live),
             product_sizes: Vec::with_capacity(live),
             biases: Vec::with_capacity(live),
+            scores: Vec::with_capacity(live),
             weights: vec![0.0; self.record.total() as usize],
             output: vec![0.0; self.record.value_size as usize],
             greatest: f64::NEG_INFINITY,
@@ -146,13 +160,14 @@ impl<'a> Textbook<'a> {
             row.products.push(self.scale * q.iter().zip(k).map(|(a, b)| a * b).sum::<f64>());
             row.product_sizes.push(self.scale * q.iter().zip(k).map(|(a, b)| (a * b).abs()).sum::<f64>());
             row.biases.push(self.bias([batch, head, query, position]));
-            row.greatest = row.greatest.max(row.products[position] + row.biases[position]);
+            row.scores.push(self.capped(row.products[position] + row.biases[position]));
+            row.greatest = row.greatest.max(row.scores[position]);
         }
         if row.greatest == f64::NEG_INFINITY {
             return row;
         }
         for position in 0..live {
-            row.weights[position] = (row.products[position] + row.biases[position] - row.greatest).exp();
+            row.weights[position] = (row.scores[position] - row.greatest).exp();
         }
         let sum: f64 = row.weights.iter().sum();
         for position in 0..live {

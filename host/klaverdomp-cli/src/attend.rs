@@ -18,20 +18,21 @@ head size together). Elements are f4, little-endian, in C order. Y gets the layo
   --q-heads N, --kv-heads N   the numbers of query heads and key heads, for 3 dimensions
   --causal                    a query sees keys up to its own position, counted from the end of the past
   --scale X                   factor of the dot products, above 0 and at most 1024 (default 1/sqrt(head size))
+  --softcap C                 caps the scores after the mask, near C * tanh(score / C), C at most 65536 (default 0: no cap)
   --mask M.npy                bool or u1 (1 shows a key, 0 hides it) or f4 (added; -inf hides); its dimensions
                               are 1 or those of (batch, query heads, queries, total), the first ones may be left out
   --past-key F, --past-value F        KV cache of the past: (batch, key heads, past, head size)
   --present-key F, --present-value F  where the KV cache of past and call together is written
   --live L.npy                i8, one for each batch: how many keys of an outside cache are used
   --mode N --scores F         writes scores (batch, query heads, queries, total): 0 scaled dot products,
-                              1 or 2 those after the mask, 3 the weights
+                              1 those after the mask, 2 those after the cap too, 3 the weights
 
 The call is cached if a past or a present file is named, counted if --live is, and plain otherwise.
 
 Exit status: 0 done; 1 refused by the operator; 2 bad usage or a bad file. Files are written only when done.
 ";
 
-const VALUED: [&str; 15] = [
+const VALUED: [&str; 16] = [
     "--query",
     "--key",
     "--value",
@@ -39,6 +40,7 @@ const VALUED: [&str; 15] = [
     "--q-heads",
     "--kv-heads",
     "--scale",
+    "--softcap",
     "--mask",
     "--past-key",
     "--past-value",
@@ -125,6 +127,7 @@ impl Files {
             form,
             causal: u64::from(args.flag("--causal")),
             scale: args.number("--scale", "a number").map_err(usage)?,
+            softcap: args.number("--softcap", "a number").map_err(usage)?.unwrap_or(0.0),
             mode: args.number("--mode", "a whole number").map_err(usage)?,
             ..shape
         };

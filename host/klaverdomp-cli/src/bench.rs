@@ -32,6 +32,10 @@ Then, on the shapes that the step entry takes, which are the decode steps of one
 the general entry bit for bit, and the step entry, the general entry and the C program take turns in the same way.
 'step / general' and 'step / C' are ratios of medians, and in brackets stand those of single rounds.
 
+Then, on the two shapes of 512 positions, the general entry and the C program with a score cap of 30, compared bit for bit,
+and the general entry without a cap take turns. 'ratio' is library / plain C, both with the cap, and 'with / without' is the
+library with the cap / without it.
+
 The shares are differences between medians of library calls that take turns, since a call cannot be looked into from outside:
   check          the refused call
   caches         the cached call less the plain one over the same positions, each less its own refused call
@@ -48,6 +52,9 @@ const SHAPES: [Shape; 5] = [
     Shape { name: "causal prefill B1 Hq8 Hkv8 S512 D64", batches: 1, q_heads: 8, kv_heads: 8, past: 0, len: 512, size: 64 },
     Shape { name: "causal prefill B1 Hq8 Hkv2 S2048 D64", batches: 1, q_heads: 8, kv_heads: 2, past: 0, len: 2048, size: 64 },
 ];
+
+/// The cap of the rows that have one.
+const SOFTCAP: f32 = 30.0;
 
 struct Shape {
     name: &'static str,
@@ -89,6 +96,7 @@ pub fn run(words: Vec<OsString>) -> Result<(), Failure> {
     let time = Duration::from_secs_f64(budget);
     ratios(&shapes, time)?;
     steps(&shapes, time)?;
+    caps(&shapes, time)?;
     if args.flag("--no-shares") {
         return Ok(());
     }
@@ -147,6 +155,41 @@ fn steps(shapes: &[&Shape], time: Duration) -> Result<(), Failure> {
         let (c, (c_ratio, c_spread)) = beside_plain_c(&times[0], times.get(2));
         say(&format!(
             "{:<38}{:>12}{:>12}{c:>12}{general:>16}{general_spread:>16}{c_ratio:>10}{c_spread:>16}{:>8}\n",
+            shape.name,
+            duration(median(&times[0])),
+            duration(median(&times[1])),
+            times[0].len()
+        ))?;
+    }
+    Ok(())
+}
+
+/// The general entry with a cap beside the plain C program with it, and beside itself without one, on the shapes of 512 positions.
+fn caps(shapes: &[&Shape], time: Duration) -> Result<(), Failure> {
+    let shapes: Vec<&Shape> = shapes.iter().copied().filter(|shape| shape.cached().total() == 512).collect();
+    if shapes.is_empty() {
+        return Ok(());
+    }
+    say(&format!(
+        "\nWith a score cap of {SOFTCAP}: the library beside the plain C program, and beside itself without a cap.\n\n"
+    ))?;
+    say(&format!(
+        "{:<38}{:>12}{:>12}{:>8}{:>16}{:>12}{:>16}{:>16}{:>8}\n",
+        "shape", "library", "plain C", "ratio", "[10% - 90%]", "without", "with / without", "[10% - 90%]", "rounds"
+    ))?;
+    for shape in shapes {
+        let work = RefCell::new(Work::new(shape.cached().with_softcap(SOFTCAP)));
+        let without = RefCell::new(Work::new(shape.cached()));
+        let mut runs: Vec<Run> = vec![Box::new(|| work.borrow_mut().library()), Box::new(|| without.borrow_mut().library())];
+        if cfg!(reference) {
+            work.borrow().compare_with_plain_c()?;
+            runs.push(Box::new(|| work.borrow_mut().plain_c()));
+        }
+        let times = interleave(shape.name, &mut runs, time);
+        let (more, more_spread) = ratio(&times[0], &times[1]);
+        let (c, (c_ratio, c_spread)) = beside_plain_c(&times[0], times.get(2));
+        say(&format!(
+            "{:<38}{:>12}{c:>12}{c_ratio:>8}{c_spread:>16}{:>12}{more:>16}{more_spread:>16}{:>8}\n",
             shape.name,
             duration(median(&times[0])),
             duration(median(&times[1])),
@@ -401,6 +444,19 @@ mod tests {
             let refusal = step(&work.call, &work.step_inputs(), &mut Buffers::new(&work.call).lend_step()).unwrap_err();
             assert_eq!((refusal.number, refusal.tensor, refusal.index), (9, 4, work.value.len() as u64 - 1));
         }
+    }
+
+    #[test]
+    fn the_cap_is_at_work_on_two_shapes() {
+        let capped = SHAPES.map(|shape| shape.cached().total() == 512);
+        assert_eq!(capped, [true, false, false, true, false]);
+        let call = SHAPES[0].cached();
+        let works = [call, call.with_softcap(SOFTCAP)].map(|call| {
+            let mut work = Work::new(call);
+            work.library();
+            work.buffers.work.iter().map(|x| x.to_bits()).collect::<Vec<u32>>()
+        });
+        assert_ne!(works[0], works[1]);
     }
 
     #[test]

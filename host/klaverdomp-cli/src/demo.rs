@@ -1,9 +1,9 @@
-// A small made-up recording, whole and in chunks, and a picture of its weights.
+// A small made-up recording, whole and in chunks, without and with a score cap, and a picture of its weights.
 
 use crate::args::Args;
-use crate::picture::{svg, Heatmap};
+use crate::picture::{svg, Heatmap, Panel};
 use crate::{say, Failure};
-use klaverdomp::{attention, Buffers, Call, Inputs, Session, Settings};
+use klaverdomp::{attention, explain, Buffers, Call, Inputs, Outputs, Session, Settings};
 use std::ffi::OsString;
 use std::fs;
 use std::path::Path;
@@ -11,15 +11,17 @@ use std::path::Path;
 pub const HELP: &str = "\
 klaverdomp demo - a small recording, whole and in chunks
 
-  klaverdomp demo [--output FILE] [--head N]
+  klaverdomp demo [--output FILE] [--head N] [--softcap C]
 
 Makes a recording of 48 positions by a fixed rule (4 query heads, 2 key heads, head size 16), attends to it in one plain
-causal call and again in chunks with a KV cache, and compares the bits. Then it draws the weights of one query head.
+causal call and again in chunks with a KV cache, and compares the bits; then the same with a score cap. It draws the weights
+of one query head, without the cap and with it side by side.
 
   --output FILE   the picture, SVG (default klaverdomp-demo.svg)
   --head N        the query head that is drawn, 0 to 3 (default 0)
+  --softcap C     the cap, at most 65536 (default 2); 0 leaves out the part with a cap
 
-Exit status: 0 all bits agree; 1 some do not; 2 bad usage, or the picture cannot be written.
+Exit status: 0 all bits agree; 1 some do not, or the cap is refused; 2 bad usage, or the picture cannot be written.
 ";
 
 const POSITIONS: usize = 48;
@@ -29,29 +31,28 @@ const SIZE: usize = 16;
 
 pub fn run(words: Vec<OsString>) -> Result<(), Failure> {
     let usage = |words: String| Failure::Usage(words, "demo");
-    let args = Args::parse(words, &["--output", "--head"], &[]).map_err(usage)?;
+    let args = Args::parse(words, &["--output", "--head", "--softcap"], &[]).map_err(usage)?;
     let head: usize = args.number("--head", "a whole number").map_err(usage)?.unwrap_or(0);
     if head >= Q_HEADS {
         return Err(usage(format!("--head {head}: there are heads 0 to {}", Q_HEADS - 1)));
     }
     let path = args.path("--output").unwrap_or(Path::new("klaverdomp-demo.svg"));
+    let softcap: f32 = args.number("--softcap", "a number").map_err(usage)?.unwrap_or(2.0);
 
     let recording = Recording::make();
+    let caps = if softcap == 0.0 { vec![0.0] } else { vec![0.0, softcap] };
+    let wholes = caps.iter().map(|cap| recording.whole(*cap)).collect::<Result<Vec<Whole>, Failure>>()?;
     say(&format!(
         "A recording of {POSITIONS} positions: {Q_HEADS} query heads, {KV_HEADS} key heads, head size {SIZE}, causal.\n\
          One plain call gives {} outputs. The same positions in chunks, each after the KV cache of those before:\n",
         recording.query.len()
     ))?;
-    let whole = recording.whole()?;
-    let mut same = true;
-    for (name, chunks) in cuts() {
-        let (outputs, caches) = recording.in_chunks(&chunks)?;
-        let agree = outputs.iter().zip(&whole.output).filter(|(a, b)| a.to_bits() == b.to_bits()).count();
-        same &= agree == whole.output.len() && caches;
-        let caches = if caches { "the caches too" } else { "the caches do not" };
-        say(&format!("  {name:<34} {agree} of {} outputs have the same bits, {caches}\n", whole.output.len()))?;
+    let mut same = recording.compare(&wholes[0])?;
+    for whole in &wholes[1..] {
+        say(&format!("The same with {}:\n", whole.label()))?;
+        same &= recording.compare(whole)?;
     }
-    fs::write(path, draw(&whole, head)).map_err(|error| Failure::File(format!("{}: {error}", path.display())))?;
+    fs::write(path, draw(&wholes, head)).map_err(|error| Failure::File(format!("{}: {error}", path.display())))?;
     say(&format!("The weights of query head {head}: {}\n", path.display()))?;
     match same {
         true => Ok(()),
@@ -70,8 +71,30 @@ fn cuts() -> Vec<(&'static str, Vec<usize>)> {
     ]
 }
 
-fn draw(whole: &Buffers, head: usize) -> String {
-    let weights = &whole.scores[head * POSITIONS * POSITIONS..][..POSITIONS * POSITIONS];
+/// One plain causal call over the recording, with its weights.
+struct Whole {
+    softcap: f32,
+    buffers: Buffers,
+}
+
+impl Whole {
+    fn label(&self) -> String {
+        if self.softcap == 0.0 {
+            "no score cap".to_string()
+        } else {
+            format!("a score cap of {}", self.softcap)
+        }
+    }
+
+    fn weights(&self, head: usize) -> &[f32] {
+        &self.buffers.scores[head * POSITIONS * POSITIONS..][..POSITIONS * POSITIONS]
+    }
+}
+
+fn draw(wholes: &[Whole], head: usize) -> String {
+    let labels: Vec<String> = wholes.iter().map(Whole::label).collect();
+    let panels: Vec<Panel> =
+        wholes.iter().zip(&labels).map(|(whole, label)| Panel { label, weights: whole.weights(head) }).collect();
     let title = format!("Attention weights of query head {head} (key head {})", head / (Q_HEADS / KV_HEADS));
     let subtitle =
         format!("Made-up recording of {POSITIONS} positions, head size {SIZE}, causal; chunks of 8 give the same bits");
@@ -82,8 +105,12 @@ fn draw(whole: &Buffers, head: usize) -> String {
         2 => "A query of this head looks for keys of the sound before its own, the latest first.",
         _ => "A query of this head looks for keys of the sound before its own, near and far alike.",
     };
-    let notes = [looks, "Each row of weights adds up to 1. Dashed: where one chunk ends and the next begins."];
-    svg(&Heatmap { title: &title, subtitle: &subtitle, positions: POSITIONS, weights, tick: 4, chunks: &chunks, notes: &notes })
+    let mut notes = vec![looks, "Each row of weights adds up to 1. Dashed: where one chunk ends and the next begins."];
+    if wholes.len() > 1 {
+        notes.push("A cap keeps scores between minus the cap and the cap, so that no weight is far above the others.");
+    }
+    let positions = POSITIONS;
+    svg(&Heatmap { title: &title, subtitle: &subtitle, positions, panels: &panels, tick: 4, chunks: &chunks, notes: &notes })
 }
 
 /// Q, K and V, (1, heads, positions, size).
@@ -128,19 +155,34 @@ impl Recording {
         Recording { query, key, value }
     }
 
-    /// One plain causal call, with its weights.
-    fn whole(&self) -> Result<Buffers, Failure> {
+    fn whole(&self, softcap: f32) -> Result<Whole, Failure> {
         let call = Call::plain(POSITIONS as u64, POSITIONS as u64).with_heads(Q_HEADS as u64, KV_HEADS as u64);
-        let call = call.with_size(SIZE as u64).with_causal().with_scores(3);
+        let call = call.with_size(SIZE as u64).with_causal().with_softcap(softcap).with_scores(3);
         let inputs = Inputs { query: &self.query, key: &self.key, value: &self.value, ..Inputs::default() };
         let mut buffers = Buffers::new(&call);
-        attention(&call, &inputs, &mut buffers.lend()).map_err(|refusal| Failure::Refused(refusal.to_string()))?;
-        Ok(buffers)
+        attention(&call, &inputs, &mut buffers.lend())
+            .map_err(|refusal| Failure::Refused(explain(&call, &inputs, &Outputs::default(), &refusal)))?;
+        Ok(Whole { softcap, buffers })
+    }
+
+    /// Says for each way to cut the recording how many outputs have the bits of the whole call; whether all do, and the caches too.
+    fn compare(&self, whole: &Whole) -> Result<bool, Failure> {
+        let expected = &whole.buffers.output;
+        let mut same = true;
+        for (name, chunks) in cuts() {
+            let (outputs, caches) = self.in_chunks(whole.softcap, &chunks)?;
+            let agree = outputs.iter().zip(expected).filter(|(a, b)| a.to_bits() == b.to_bits()).count();
+            same &= agree == expected.len() && caches;
+            let caches = if caches { "the caches too" } else { "the caches do not" };
+            say(&format!("  {name:<34} {agree} of {} outputs have the same bits, {caches}\n", expected.len()))?;
+        }
+        Ok(same)
     }
 
     /// The outputs of the chunks, put together, and whether the session's caches then have the bits of all keys and values.
-    fn in_chunks(&self, chunks: &[usize]) -> Result<(Vec<f32>, bool), Failure> {
-        let mut session = Session::new(Settings::new(Q_HEADS as u64, KV_HEADS as u64, SIZE as u64));
+    fn in_chunks(&self, softcap: f32, chunks: &[usize]) -> Result<(Vec<f32>, bool), Failure> {
+        let settings = Settings::new(Q_HEADS as u64, KV_HEADS as u64, SIZE as u64).with_softcap(softcap);
+        let mut session = Session::new(settings);
         let mut outputs = vec![0.0; self.query.len()];
         let mut start = 0;
         for len in chunks {
@@ -191,10 +233,23 @@ mod tests {
     #[test]
     fn chunks_have_the_bits_of_the_plain_call() {
         let recording = Recording::make();
-        let whole = recording.whole().ok().unwrap();
-        for (_, chunks) in cuts() {
-            let (outputs, caches) = recording.in_chunks(&chunks).ok().unwrap();
-            assert!(same_bits(&outputs, &whole.output) && caches);
+        for softcap in [0.0, 2.0] {
+            let whole = recording.whole(softcap).ok().unwrap();
+            for (_, chunks) in cuts() {
+                let (outputs, caches) = recording.in_chunks(softcap, &chunks).ok().unwrap();
+                assert!(same_bits(&outputs, &whole.buffers.output) && caches);
+            }
+        }
+    }
+
+    #[test]
+    fn a_cap_makes_the_largest_weights_smaller() {
+        let recording = Recording::make();
+        let [without, capped] = [0.0, 2.0].map(|softcap| recording.whole(softcap).ok().unwrap());
+        for head in 0..Q_HEADS {
+            let most =
+                |whole: &Whole| whole.weights(head).chunks(POSITIONS).next_back().unwrap().iter().copied().fold(0.0, f32::max);
+            assert!(most(&capped) < most(&without), "head {head}");
         }
     }
 }

@@ -21,6 +21,7 @@ struct ReferenceCall {
     v_size: u64,
     mask_dims: [u64; 4],
     scale: f32,
+    softcap: f32,
 }
 
 #[repr(C)]
@@ -110,6 +111,7 @@ pub fn attention(call: &Call, inputs: &Inputs, outputs: &mut Outputs) -> Option<
         v_size: call.v_size,
         mask_dims: call.mask_dims,
         scale: call.scale.unwrap_or(0.0),
+        softcap: call.softcap,
     };
     let inputs = ReferenceInputs {
         query: part(inputs.query),

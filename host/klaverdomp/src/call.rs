@@ -41,8 +41,11 @@ pub struct Call {
     pub mask: MaskKind,
     /// The factor of the dot products; absent, it is 1/√D ([`crate::default_scale`]).
     pub scale: Option<f32>,
-    /// Which scores are written (ONNX: `qk_matmul_output_mode`): 0 the scaled dot products, 1 and 2 those after the mask,
-    /// 3 the weights.
+    /// The score cap c, up to 65,536 (ONNX: `softcap`); 0 of either sign means none. After the mask each score s becomes c·t, near
+    /// c·tanh(s/c) and never above c in magnitude; see [`Call::with_softcap`].
+    pub softcap: f32,
+    /// Which scores are written (ONNX: `qk_matmul_output_mode`): 0 the scaled dot products, 1 those after the mask, 2 those after the
+    /// cap, 3 the weights. Without a cap 1 and 2 are the same.
     pub mode: Option<u64>,
     /// 4 for (batch, head, position, column), 3 for (batch, position, head and column).
     pub rank: u64,
@@ -74,6 +77,7 @@ impl Call {
             form,
             mask: MaskKind::None,
             scale: None,
+            softcap: 0.0,
             mode: None,
             rank: 4,
             causal: 0,
@@ -133,6 +137,27 @@ impl Call {
 
     pub fn with_scale(self, scale: f32) -> Call {
         Call { scale: Some(scale), ..self }
+    }
+
+    /// Scores are capped: for the cap c a score s becomes c·t, where x = s/c, a is -x where x is below 0 and else x, g = E(a + a)
+    /// ([`crate::exp_neg`]), and t = (1 - g)/(1 + g), negated where x is below 0. Each is one f32 operation.
+    ///
+    /// ```
+    /// use klaverdomp::{attention, Buffers, Call, Inputs};
+    ///
+    /// let inputs = Inputs { query: &[1.0], key: &[20.0, -3.0], value: &[2.0, 4.0], ..Inputs::default() };
+    /// let call = Call::plain(1, 2).with_scale(1.0).with_softcap(2.0);
+    /// let shown = |mode| {
+    ///     let call = call.with_scores(mode);
+    ///     let mut buffers = Buffers::new(&call);
+    ///     attention(&call, &inputs, &mut buffers.lend()).map(|_| buffers.scores)
+    /// };
+    /// assert_eq!(shown(1)?, [20.0, -3.0]);
+    /// assert_eq!(shown(2)?, [2.0, -1.810_296_5]);
+    /// # Ok::<(), klaverdomp::Refusal>(())
+    /// ```
+    pub fn with_softcap(self, softcap: f32) -> Call {
+        Call { softcap, ..self }
     }
 
     /// The scores of this mode are written.

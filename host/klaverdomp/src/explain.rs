@@ -83,6 +83,9 @@ fn settings(call: &Call) -> Vec<String> {
     if let Some(scale) = call.scale.filter(|scale| !(*scale > 0.0 && *scale <= 1024.0)) {
         faults.push(format!("the scale is {scale}"));
     }
+    if !(0.0..=65_536.0).contains(&call.softcap) {
+        faults.push(format!("the softcap is {:?}", call.softcap));
+    }
     faults
 }
 

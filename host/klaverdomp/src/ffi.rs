@@ -4,14 +4,15 @@
 // elements as it says; `&mut` slices overlap nothing else; the library is proved to stay inside the slices it is lent, whatever
 // the numbers are, and keeps no pointer after it returns.
 
-use crate::{Done, Inputs, Outputs, Refusal, StepInputs, StepOutputs};
+use crate::{Call, Done, Inputs, Outputs, Refusal, StepInputs, StepOutputs};
 
 #[allow(unsafe_code)]
 extern "C" {
-    fn klaverdomp_attention_1(
+    fn klaverdomp_attention_2(
         record: *const u64,
         record_len: usize,
         scale: f32,
+        softcap: f32,
         query: *const f32,
         query_len: usize,
         key: *const f32,
@@ -43,10 +44,11 @@ extern "C" {
         total: *mut u64,
         masked: *mut u64,
     ) -> u32;
-    fn klaverdomp_step_1(
+    fn klaverdomp_step_2(
         record: *const u64,
         record_len: usize,
         scale: f32,
+        softcap: f32,
         query: *const f32,
         query_len: usize,
         key: *const f32,
@@ -95,14 +97,16 @@ impl Answer {
 }
 
 #[allow(unsafe_code)]
-pub(crate) fn attention(record: &[u64; 18], scale: f32, inputs: &Inputs, outputs: &mut Outputs) -> Answer {
+pub(crate) fn attention(call: &Call, inputs: &Inputs, outputs: &mut Outputs) -> Answer {
+    let record = call.record();
     let (mut tensor, mut index, mut total, mut masked) = (0, 0, 0, 0);
     // SAFETY: see the head of the file.
     let number = unsafe {
-        klaverdomp_attention_1(
+        klaverdomp_attention_2(
             record.as_ptr(),
             record.len(),
-            scale,
+            call.scale.unwrap_or(0.0),
+            call.softcap,
             inputs.query.as_ptr(),
             inputs.query.len(),
             inputs.key.as_ptr(),
@@ -139,14 +143,16 @@ pub(crate) fn attention(record: &[u64; 18], scale: f32, inputs: &Inputs, outputs
 }
 
 #[allow(unsafe_code)]
-pub(crate) fn step(record: &[u64; 18], scale: f32, inputs: &StepInputs, outputs: &mut StepOutputs) -> Answer {
+pub(crate) fn step(call: &Call, inputs: &StepInputs, outputs: &mut StepOutputs) -> Answer {
+    let record = call.record();
     let (mut tensor, mut index, mut total, mut masked) = (0, 0, 0, 0);
     // SAFETY: see the head of the file.
     let number = unsafe {
-        klaverdomp_step_1(
+        klaverdomp_step_2(
             record.as_ptr(),
             record.len(),
-            scale,
+            call.scale.unwrap_or(0.0),
+            call.softcap,
             inputs.query.as_ptr(),
             inputs.query.len(),
             inputs.key.as_ptr(),

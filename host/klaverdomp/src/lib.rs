@@ -3,7 +3,8 @@
 //! A call is a record ([`Call`]), borrowed tensors to read ([`Inputs`]) and borrowed tensors to write ([`Outputs`]).
 //! [`attention`] either does the call or answers the first refusal that applies, and then leaves every tensor as it was.
 //! [`step`] is the same for decode steps of one position alone, and takes neither masks nor live counts nor scores.
-//! [`Session`] keeps the KV cache of a recording that comes in chunks.
+//! [`Session`] keeps the KV cache of a recording that comes in chunks. A call and a session may have a score cap
+//! ([`Call::with_softcap`], [`Settings::with_softcap`]).
 //!
 //! One query over two keys that are alike, so that each weighs a half:
 //!
@@ -184,7 +185,7 @@ pub struct Done {
 /// # Ok::<(), klaverdomp::Refusal>(())
 /// ```
 pub fn attention(call: &Call, inputs: &Inputs, outputs: &mut Outputs) -> Result<Done, Refusal> {
-    ffi::attention(&call.record(), call.scale.unwrap_or(0.0), inputs, outputs).result()
+    ffi::attention(call, inputs, outputs).result()
 }
 
 /// Asks the operator about the record and the lengths of the inputs, before there are outputs: the refusal of number 1 to 5 that

@@ -40,7 +40,7 @@ impl fmt::Display for Refusal {
             2 => f.write_str("the number of query heads is not a multiple of the number of key heads"),
             3 => f.write_str(
                 "the rank is not 3 or 4, the causal flag not 0 or 1, the score mode above 3, \
-                 or the scale not above 0 and at most 1,024",
+                 the scale not above 0 and at most 1,024, or the softcap not from 0 to 65,536",
             ),
             4 => f.write_str("a mask dimension is neither 1 nor its full size"),
             5 => f.write_str("an input tensor has the wrong length"),

@@ -8,7 +8,7 @@ use crate::{attention, before_outputs, is_step, step, Call, Done, Refusal, StepI
 /// use klaverdomp::Settings;
 ///
 /// let settings = Settings::new(8, 2, 64).with_rank(3);
-/// assert_eq!((settings.batches, settings.v_size, settings.scale), (1, 64, None));
+/// assert_eq!((settings.batches, settings.v_size, settings.scale, settings.softcap), (1, 64, None, 0.0));
 /// ```
 #[derive(Clone, Copy, Debug, PartialEq)]
 pub struct Settings {
@@ -19,12 +19,14 @@ pub struct Settings {
     pub size: u64,
     pub v_size: u64,
     pub scale: Option<f32>,
+    /// The score cap of every chunk; 0 means none.
+    pub softcap: f32,
 }
 
 impl Settings {
-    /// One batch of rank 4, with so many query heads and key heads, all of one size, and the default scale.
+    /// One batch of rank 4, with so many query heads and key heads, all of one size, the default scale and no cap.
     pub fn new(q_heads: u64, kv_heads: u64, size: u64) -> Settings {
-        Settings { rank: 4, batches: 1, q_heads, kv_heads, size, v_size: size, scale: None }
+        Settings { rank: 4, batches: 1, q_heads, kv_heads, size, v_size: size, scale: None, softcap: 0.0 }
     }
 
     pub fn with_rank(self, rank: u64) -> Settings {
@@ -43,10 +45,15 @@ impl Settings {
         Settings { scale: Some(scale), ..self }
     }
 
+    pub fn with_softcap(self, softcap: f32) -> Settings {
+        Settings { softcap, ..self }
+    }
+
     /// The causal cached call of `len` positions after `past` ones.
     fn call(&self, past: u64, len: u64) -> Call {
         Call {
             scale: self.scale,
+            softcap: self.softcap,
             rank: self.rank,
             batches: self.batches,
             q_heads: self.q_heads,

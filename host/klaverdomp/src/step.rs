@@ -50,9 +50,9 @@ impl<'a> From<StepOutputs<'a>> for Outputs<'a> {
 
 /// Does a decode step of one position, or answers the refusal that applies and changes nothing.
 ///
-/// The call is of the step profile: cached, causal, rank 4, one batch, one query and one key, without a mask and without scores. Any
-/// other is refusal 10, whatever else is wrong with it. A call of the profile gets the answer of [`crate::attention`], and leaves the
-/// same bits.
+/// The call is of the step profile: cached, causal, rank 4, one batch, one query and one key, without a mask and without scores, at any
+/// scale and softcap. Any other is refusal 10, whatever else is wrong with it. A call of the profile gets the answer of
+/// [`crate::attention`], and leaves the same bits.
 ///
 /// ```
 /// use klaverdomp::{step, Buffers, Call, Done, StepInputs};
@@ -69,7 +69,7 @@ impl<'a> From<StepOutputs<'a>> for Outputs<'a> {
 /// # Ok::<(), klaverdomp::Refusal>(())
 /// ```
 pub fn step(call: &Call, inputs: &StepInputs, outputs: &mut StepOutputs) -> Result<Done, Refusal> {
-    ffi::step(&call.record(), call.scale.unwrap_or(0.0), inputs, outputs).result()
+    ffi::step(call, inputs, outputs).result()
 }
 
 /// Whether [`step`] takes the record: refusal 10 does not apply to it, though another one may.

@@ -6,6 +6,7 @@ use common::{accepted, bits, Generator};
 use klaverdomp::{Call, Done, Inputs, Refusal, Session, Settings};
 
 /// All positions of a recording, and where the rows of a position stand.
+#[derive(Clone)]
 struct Recording {
     settings: Settings,
     positions: u64,
@@ -41,7 +42,7 @@ impl Recording {
 
 fn plain(s: &Settings, positions: u64) -> Call {
     let call = Call::plain(positions, positions).with_batches(s.batches).with_heads(s.q_heads, s.kv_heads).with_causal();
-    Call { scale: s.scale, rank: s.rank, size: s.size, v_size: s.v_size, ..call }
+    Call { scale: s.scale, softcap: s.softcap, rank: s.rank, size: s.size, v_size: s.v_size, ..call }
 }
 
 /// The positions from `start` on, in the same layout.
@@ -96,7 +97,7 @@ fn every_cut_has_the_bits_of_one_plain_call() {
     for rank in [3, 4] {
         for (batches, q_heads, kv_heads, size, v_size) in [(1, 1, 1, 1, 1), (2, 4, 2, 5, 3), (1, 6, 1, 16, 16), (3, 2, 2, 8, 9)] {
             let settings = Settings::new(q_heads, kv_heads, size).with_value_size(v_size).with_batches(batches).with_rank(rank);
-            for settings in [settings, settings.with_scale(0.7)] {
+            for settings in [settings, settings.with_scale(0.7), settings.with_softcap(0.5)] {
                 let recording = Recording::new(settings, 23, &mut generator);
                 let whole = recording.whole();
                 let mut session = Session::new(settings);
@@ -117,7 +118,7 @@ fn steps_have_the_bits_of_one_plain_call() {
     let mut generator = Generator::new(13);
     for (q_heads, kv_heads, size, v_size) in [(1, 1, 1, 1), (4, 2, 5, 3), (6, 1, 16, 16), (2, 2, 8, 9)] {
         let settings = Settings::new(q_heads, kv_heads, size).with_value_size(v_size);
-        for settings in [settings, settings.with_scale(0.7)] {
+        for settings in [settings, settings.with_scale(0.7), settings.with_softcap(0.5)] {
             let recording = Recording::new(settings, 23, &mut generator);
             let whole = recording.whole();
             let mut session = Session::new(settings);
@@ -138,6 +139,22 @@ fn steps_have_the_bits_of_one_plain_call() {
                 session.clear();
             }
         }
+    }
+}
+
+#[test]
+fn a_session_keeps_its_cap() {
+    let settings = Settings::new(4, 2, 8);
+    let recording = Recording::new(settings, 12, &mut Generator::new(21));
+    let whole = recording.whole();
+    for softcap in [-0.0, f32::from_bits(1), 0.25, 30.0, 65_536.0] {
+        let capped = Recording { settings: settings.with_softcap(softcap), ..recording.clone() };
+        let (capped_whole, mut session) = (capped.whole(), Session::new(capped.settings));
+        assert_eq!(bits(&capped_whole) == bits(&whole), softcap == 0.0, "{softcap:e}");
+        agrees(&capped, &capped_whole, &[5, 1, 1, 3, 2], &mut session);
+        session.clear();
+        agrees_fed(&capped, &capped_whole, &[(1, Session::step as Feed); 12], &mut session);
+        assert_eq!(session.settings().softcap.to_bits(), softcap.to_bits());
     }
 }
 
@@ -267,4 +284,6 @@ fn settings_of_any_numbers_are_refused_in_order() {
     assert_eq!(first(Settings::new(3, 1, 1).with_rank(5)), [3, 10]);
     assert_eq!(first(Settings::new(33, 1, 1)), [1, 1]);
     assert_eq!(first(Settings::new(1, 1, 1).with_scale(0.0)), [3, 3]);
+    assert_eq!(first(Settings::new(1, 1, 1).with_softcap(-1.0)), [3, 3]);
+    assert_eq!(first(Settings::new(33, 1, 1).with_softcap(f32::NAN)), [1, 1]);
 }

@@ -106,6 +106,7 @@ returns c =
       form = (formed .decode-form .ensures ∙ ap formOf form) i;
       mask = (masked .decode-mask .ensures ∙ ap maskKindOf mask) i;
       scale = (scaled .decode-scale .ensures ∙ (λ j. scaleOf (given j) (at0 .before .before .args .scale))) i;
+      softcap = at0 .before .before .args .softcap;
       mode = (shown .decode-mode .ensures ∙ ap modeOf (at3 .number4 .ensures)) i;
       rank = (ranked .decode-rank .ensures ∙ (λ j. rankOf (form j) (mask j) (at4 .number5 .ensures j))) i;
       causal = at5 .number6 .ensures i;

@@ -1,4 +1,4 @@
--- `row_steps::softmax_masked` meets its contract: the mask, what is shown of the scores, softmax, +0 behind, and what is shown of the weights, one after the other. Assumes nothing.
+-- `row_steps::softmax_masked` meets its contract: the mask and the cap, softmax, +0 behind, and what is shown of the weights, one after the other. Assumes nothing.
 use mathlib.Core.Path.{_≡_, sym, ap, _∙_, subst}
 use mathlib.Core.Bool.{true}
 use mathlib.Core.List.{List, _++_}
@@ -9,10 +9,12 @@ use borrow.Rule.Slice.PartMut.{putMid}
 use lib.Dec.{T}
 use lib.ListN.{length, take, drop, replicate, length-append}
 use lib.Seq.{length-take-le, take-at}
-use lib.Ieee.{Float, ofBits, neg, nanBits}
+use lib.Ieee.{Float, ofBits}
 use Rattle.exponential.specs.ExpNeg.{plusZero}
-use Rattle.softmax.specs.Lists.{hidden, isScoreRow, softmaxRowOf, maskedRowOf}
+use Rattle.softmax.specs.Lists.{isScoreRow, softmaxRowOf, maskedRowOf}
+use Rattle.softmax.specs.Cap.{cappedRowWhere}
 use Rattle.softmax.proofs.Positions.{length-softmax}
+use Rattle.softmax.proofs.Cap.{length-under-cap}
 use Rattle.attention.specs.Admission.{repeated}
 use Rattle.row_steps.specs.Steps.{maskRowFits, maskedRowBy, showsOf, paddedTo, shownWhere}
 use Rattle.tensor_laws.proofs.Tails.{length-first, length-second, put-second}
@@ -21,112 +23,91 @@ use Rattle.row_steps.proofs.Shown.{shows-room}
 use Rattle.row_steps.proofs.softmax_masked.Statement.{statement}
 use Rattle.row_steps.proofs.softmax_masked.Tie as tie
 
--- the scores under the mask
-abbrev scoresOf : tie.Start → List Float
-scoresOf c = let s = c .args in maskedRowBy (s .kind) (s .bytes .now) (s .cells .now) (λ j. s .at + repeated (s .width) j) (take (s .n) (s .work .now))
+-- the scores under the mask, and under the cap
+abbrev maskedOf : tie.Start → List Float
+maskedOf c = let s = c .args in maskedRowBy (s .kind) (s .bytes .now) (s .cells .now) (λ j. s .at + repeated (s .width) j) (take (s .n) (s .work .now))
 
-slice-relend-prefix-mask-row : tie.Need-slice-relend-prefix-mask-row
-slice-relend-prefix-mask-row c = search needs
+abbrev scoresOf : tie.Start → List Float
+scoresOf c = cappedRowWhere (c .args .softcap) (maskedOf c)
+
+slice-relend-prefix-mask-and-cap : tie.Need-slice-relend-prefix-mask-and-cap
+slice-relend-prefix-mask-and-cap c = search needs
 
 -- the scores are n
 scores-long : (c : tie.Start) → length (take (c .args .n) (c .args .work .now)) ≡ c .args .n
 scores-long c = length-take-le (c .args .n) (c .args .work .now) (c .pre .1 .1 .0 .0)
 
-slice-aggregate-mask-row : tie.Need-slice-aggregate-mask-row
-slice-aggregate-mask-row c = sym (scores-long (c .before .before .before .before .before))
-
-mask-row-requires : tie.Need-mask-row-requires
-mask-row-requires c κs =
-    let start = c .before .before .before .before .before in
-    let s = start .args in
-    subst (λ (n : ℕ). maskRowFits (s .kind) (length (s .bytes .now)) (length (s .cells .now)) (s .at) (s .width) n) (sym (scores-long start)) (start .pre .0)
-
--- ---- after the mask
-
-abbrev startOf : tie.After-mask-row → tie.Start
-startOf c = c .before .before .before .before .before .before
-
-abbrev masked : tie.After-mask-row → List Float
-masked c = c .mask-row .last .1 .1 .1 .1 .1 .0
-
--- the scratch row after the mask
-abbrev maskedWork : tie.After-mask-row → List Float
-maskedWork c = masked c ++ drop (startOf c .args .n) (startOf c .args .work .now)
-
-masked-is : (c : tie.After-mask-row) → masked c ≡ scoresOf (startOf c)
-masked-is c = c .mask-row .ensures
-
-masked-long : (c : tie.After-mask-row) → length (masked c) ≡ startOf c .args .n
-masked-long c =
-    let s = startOf c .args in
-    ap length (masked-is c) ∙ length-masked (s .kind) (s .bytes .now) (s .cells .now) (λ j. s .at + repeated (s .width) j) (take (s .n) (s .work .now)) ∙ scores-long (startOf c)
-
-work-long : (c : tie.After-mask-row) → length (maskedWork c) ≡ length (startOf c .args .work .now)
-work-long c = let s = startOf c .args in length-first (s .n) (s .work .now) (masked c) (masked-long c) (startOf c .pre .1 .1 .0 .0)
-
-taken-is : (c : tie.After-mask-row) → take (startOf c .args .n) (maskedWork c) ≡ scoresOf (startOf c)
-taken-is c = let s = startOf c .args in take-at (masked c) (drop (s .n) (s .work .now)) (s .n) (masked-long c) ∙ masked-is c
-
-taken-long : (c : tie.After-mask-row) → length (take (startOf c .args .n) (maskedWork c)) ≡ startOf c .args .n
-taken-long c = let s = startOf c .args in ap length (take-at (masked c) (drop (s .n) (s .work .now)) (s .n) (masked-long c)) ∙ masked-long c
-
-shows-requires : tie.Need-shows-requires
-shows-requires c κs = search needs
-
-slice-reshare-prefix-show : tie.Need-slice-reshare-prefix-show
-slice-reshare-prefix-show c = let m = c .before .before .before in omega (arith, work-long m, startOf m .pre .1 .1 .0 .0)
-
-slice-aggregate-show : tie.Need-slice-aggregate-show
-slice-aggregate-show c = sym (taken-long (c .before .before .before .before))
-
-float-from-bits-show : tie.Need-float-from-bits-show
-unfolding nanBits
-float-from-bits-show c = tt
+slice-aggregate-mask-and-cap : tie.Need-slice-aggregate-mask-and-cap
+slice-aggregate-mask-and-cap c = sym (scores-long (c .before .before .before .before .before .before))
 
 -- what is shown has room where the mode shows it
 room : (c : tie.Start) (low high : ℕ) → showsOf (c .args .mode) low high ≡ true → length (c .args .shown .now) ≡ length (c .args .work .now)
 room c low high e = c .pre .1 .1 .1 ∙ shows-room (c .args .mode) low high (length (c .args .work .now)) e
 
-show-requires : tie.Need-show-requires
-show-requires c κs e =
-    let h = c .before .before in
-    let m = h .before .before .before in
-    let start = startOf m in
-    omega (arith, taken-long m, room start 1 2 (sym (h .shows .ensures) ∙ e), start .pre .1 .1 .0 .0)
+mask-and-cap-requires : tie.Need-mask-and-cap-requires
+mask-and-cap-requires c κs =
+    let start = c .before .before .before .before .before .before in
+    let s = start .args in (
+      subst (λ (n : ℕ). maskRowFits (s .kind) (length (s .bytes .now)) (length (s .cells .now)) (s .at) (s .width) n) (sym (scores-long start)) (start .pre .0),
+      λ low high e. omega (arith, scores-long start, room start low high e, start .pre .1 .1 .0 .0),
+    )
 
--- what is shown of the scores
-shown-scores : (c : tie.After-show) → let start = startOf (c .before .before .before .before .before .before) in c .show .last .1 .1 .1 .0 ≡ shownWhere (showsOf (start .args .mode) 1 2) hidden (scoresOf start) (start .args .shown .now)
-unfolding ofBits neg
-shown-scores c =
-    let h = c .before .before .before in
-    let m = h .before .before .before in
-    let start = startOf m in
-    c .show .ensures ∙ (λ i. shownWhere (h .shows .ensures i) hidden (taken-is m i) (start .args .shown .now))
+-- ---- after the mask and the cap
+
+abbrev startOf : tie.After-mask-and-cap → tie.Start
+startOf c = c .before .before .before .before .before .before .before
+
+abbrev capped : tie.After-mask-and-cap → List Float
+capped c = c .mask-and-cap .last .1 .1 .1 .1 .1 .1 .1 .1 .0
+
+-- the scratch row after the cap
+abbrev cappedWork : tie.After-mask-and-cap → List Float
+cappedWork c = capped c ++ drop (startOf c .args .n) (startOf c .args .work .now)
+
+capped-is : (c : tie.After-mask-and-cap) → capped c ≡ scoresOf (startOf c)
+capped-is c = c .mask-and-cap .ensures .scores
+
+capped-long : (c : tie.After-mask-and-cap) → length (capped c) ≡ startOf c .args .n
+capped-long c =
+    let s = startOf c .args in
+    ap length (capped-is c)
+    ∙ length-under-cap (s .softcap) (maskedOf (startOf c))
+    ∙ length-masked (s .kind) (s .bytes .now) (s .cells .now) (λ j. s .at + repeated (s .width) j) (take (s .n) (s .work .now))
+    ∙ scores-long (startOf c)
+
+work-long : (c : tie.After-mask-and-cap) → length (cappedWork c) ≡ length (startOf c .args .work .now)
+work-long c = let s = startOf c .args in length-first (s .n) (s .work .now) (capped c) (capped-long c) (startOf c .pre .1 .1 .0 .0)
+
+taken-is : (c : tie.After-mask-and-cap) → take (startOf c .args .n) (cappedWork c) ≡ scoresOf (startOf c)
+taken-is c = let s = startOf c .args in take-at (capped c) (drop (s .n) (s .work .now)) (s .n) (capped-long c) ∙ capped-is c
+
+taken-long : (c : tie.After-mask-and-cap) → length (take (startOf c .args .n) (cappedWork c)) ≡ startOf c .args .n
+taken-long c = let s = startOf c .args in ap length (take-at (capped c) (drop (s .n) (s .work .now)) (s .n) (capped-long c)) ∙ capped-long c
 
 -- ---- softmax
 
 slice-relend-prefix-softmax-row : tie.Need-slice-relend-prefix-softmax-row
-slice-relend-prefix-softmax-row c = let m = c .before .before .before .before .before .before .before .before in omega (arith, work-long m, startOf m .pre .1 .1 .0 .0)
+slice-relend-prefix-softmax-row c = let m = c .before .before .before .before in omega (arith, work-long m, startOf m .pre .1 .1 .0 .0)
 
 slice-aggregate-softmax-row : tie.Need-slice-aggregate-softmax-row
-slice-aggregate-softmax-row c = sym (taken-long (c .before .before .before .before .before .before .before .before .before))
+slice-aggregate-softmax-row c = sym (taken-long (c .before .before .before .before .before))
 
 softmax-row-requires : tie.Need-softmax-row-requires
 softmax-row-requires c κs =
-    let m = c .before .before .before .before .before .before .before .before .before in
+    let m = c .before .before .before .before .before in
     let start = startOf m in
     (subst (λ (r : List Float). T (isScoreRow r)) (sym (taken-is m)) (start .pre .1 .0), omega (arith, taken-long m, start .pre .1 .1 .0))
 
-abbrev maskOf : tie.After-softmax-row → tie.After-mask-row
-maskOf c = c .before .before .before .before .before .before .before .before .before .before
+abbrev maskOf : tie.After-softmax-row → tie.After-mask-and-cap
+maskOf c = c .before .before .before .before .before .before
 
 weights-are : (c : tie.After-softmax-row) → c .softmax-row .last .0 ≡ softmaxRowOf (scoresOf (startOf (maskOf c)))
 weights-are c = c .softmax-row .ensures .1 ∙ ap softmaxRowOf (taken-is (maskOf c))
 
 weights-long : (c : tie.After-softmax-row) → length (c .softmax-row .last .0) ≡ startOf (maskOf c) .args .n
-weights-long c = ap length (c .softmax-row .ensures .1) ∙ length-softmax (take (startOf (maskOf c) .args .n) (maskedWork (maskOf c))) ∙ taken-long (maskOf c)
+weights-long c = ap length (c .softmax-row .ensures .1) ∙ length-softmax (take (startOf (maskOf c) .args .n) (cappedWork (maskOf c))) ∙ taken-long (maskOf c)
 
-inside : (c : tie.After-softmax-row) → startOf (maskOf c) .args .n ≤ length (maskedWork (maskOf c))
+inside : (c : tie.After-softmax-row) → startOf (maskOf c) .args .n ≤ length (cappedWork (maskOf c))
 inside c = omega (arith, work-long (maskOf c), startOf (maskOf c) .pre .1 .1 .0 .0)
 
 mul-fill-row : tie.Need-mul-fill-row
@@ -149,7 +130,7 @@ abbrev workAfter : tie.After-fill-row → List Float
 workAfter c =
     let a = c .before .before .before .before in
     let n = startOf (maskOf a) .args .n in
-    let w = a .softmax-row .last .0 ++ drop n (maskedWork (maskOf a)) in
+    let w = a .softmax-row .last .0 ++ drop n (cappedWork (maskOf a)) in
     putMid n (length w - n) w (c .fill-row .last .0)
 
 work-is : (c : tie.After-fill-row) → let start = startOf (maskOf (c .before .before .before .before)) in workAfter c ≡ paddedTo (length (start .args .work .now)) plusZero (softmaxRowOf (scoresOf start))
@@ -161,8 +142,8 @@ work-is c =
     let n = start .args .n in
     let weights = a .softmax-row .last .0 in
     let long : length (softmaxRowOf (scoresOf start)) ≡ n = ap length (sym (weights-are a)) ∙ weights-long a in
-    put-second n (maskedWork m) weights (weights-long a) (inside a) (c .fill-row .last .0)
-    ∙ (λ i. weights-are a i ++ (c .fill-row .ensures ∙ ap (λ (k : ℕ). replicate k plusZero) (length-second n (maskedWork m) weights (weights-long a) (inside a) ∙ ap (λ (k : ℕ). k - n) (work-long m))) i)
+    put-second n (cappedWork m) weights (weights-long a) (inside a) (c .fill-row .last .0)
+    ∙ (λ i. weights-are a i ++ (c .fill-row .ensures ∙ ap (λ (k : ℕ). replicate k plusZero) (length-second n (cappedWork m) weights (weights-long a) (inside a) ∙ ap (λ (k : ℕ). k - n) (work-long m))) i)
     ∙ ap (λ (k : ℕ). softmaxRowOf (scoresOf start) ++ replicate (length (start .args .work .now) - k) plusZero) (sym long)
 
 -- it has its length still
@@ -173,20 +154,19 @@ work-kept c =
     let start = startOf m in
     let n = start .args .n in
     let weights = a .softmax-row .last .0 in
-    ap length (put-second n (maskedWork m) weights (weights-long a) (inside a) (c .fill-row .last .0))
+    ap length (put-second n (cappedWork m) weights (weights-long a) (inside a) (c .fill-row .last .0))
     ∙ length-append weights (c .fill-row .last .0)
-    ∙ omega (arith, weights-long a, c .fill-row .kept .0, length-second n (maskedWork m) weights (weights-long a) (inside a), work-long m, start .pre .1 .1 .0 .0)
+    ∙ omega (arith, weights-long a, c .fill-row .kept .0, length-second n (cappedWork m) weights (weights-long a) (inside a), work-long m, start .pre .1 .1 .0 .0)
 
-shows-requires-2 : tie.Need-shows-requires-2
-shows-requires-2 c κs = search needs
+shows-requires : tie.Need-shows-requires
+shows-requires c κs = search needs
 
-show-requires-2 : tie.Need-show-requires-2
-show-requires-2 c κs e =
+show-requires : tie.Need-show-requires
+show-requires c κs e =
     let h = c .before .before in
     let f = h .before .before .before in
-    let a = f .before .before .before .before in
-    let start = startOf (maskOf a) in
-    omega (arith, work-kept f, room start 3 3 (sym (h .shows2 .ensures) ∙ e), a .before .before .before .before .show .kept .1 .1 .1 .0)
+    let m = maskOf (f .before .before .before .before) in
+    omega (arith, work-kept f, room (startOf m) 3 3 (sym (h .shows .ensures) ∙ e), m .mask-and-cap .kept .1 .1 .1 .1 .1 .1 .1 .0)
 
 same-length : tie.Need-same-length
 same-length c = search needs
@@ -201,25 +181,20 @@ returns c =
     let h = d .before .before .before in
     let f = h .before .before .before in
     let a = f .before .before .before .before in
-    let start = startOf (maskOf a) in
+    let m = maskOf a in
     record {
       weights = work-is f;
-      blind = a .softmax-row .ensures .0 ∙ ap maskedRowOf (taken-is (maskOf a));
-      shows = d .show2 .ensures ∙ (λ i. shownWhere (h .shows2 .ensures i) plusZero (workAfter f) (shown-scores (a .before .before .before .before) i));
+      told = a .softmax-row .ensures .0 ∙ ap maskedRowOf (taken-is m);
+      shows = d .show .ensures ∙ (λ i. shownWhere (h .shows .ensures i) plusZero (workAfter f) (m .mask-and-cap .ensures .shows i));
     }
 
 pub softmax-masked-spec : {M : Type 1} → statement M
 softmax-masked-spec =
     tie.close
     (tie.spec
-    slice-relend-prefix-mask-row
-    slice-aggregate-mask-row
-    mask-row-requires
-    shows-requires
-    slice-reshare-prefix-show
-    slice-aggregate-show
-    float-from-bits-show
-    show-requires
+    slice-relend-prefix-mask-and-cap
+    slice-aggregate-mask-and-cap
+    mask-and-cap-requires
     slice-relend-prefix-softmax-row
     slice-aggregate-softmax-row
     softmax-row-requires
@@ -228,8 +203,8 @@ softmax-masked-spec =
     part-fill-row-start
     part-fill-row-end
     fill-row-requires
-    shows-requires-2
-    show-requires-2
+    shows-requires
+    show-requires
     same-length
     same-length-2
     returns)

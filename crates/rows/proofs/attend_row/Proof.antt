@@ -21,7 +21,7 @@ use Rattle.row_steps.specs.Steps.{visibleOf, maskStart, maskHas, maskRowFits}
 use Rattle.row_steps.proofs.Shown.{shows-room}
 use Rattle.rows.specs.Unit.{Accepting, RunFits}
 use Rattle.rows.proofs.Ready.{accepts, limits, lengths, group-some, query-row-fits, query-row-end, key-run, value-run, mask-has, mask-row-fits, mask-start-small}
-use Rattle.rows.proofs.Assembled.{query-row, n-total, m-total, masked-scores, row-done}
+use Rattle.rows.proofs.Assembled.{query-row, n-total, m-total, capped-scores, row-done}
 use Rattle.rows.proofs.attend_row.Statement.{statement}
 use Rattle.rows.proofs.attend_row.Tie as tie
 
@@ -181,7 +181,7 @@ softmax-masked-requires c κs =
     let n = d .before .before .visible .result in (
       subst (λ (at : ℕ). maskRowFits (s .call .mask) (length (s .boolmask .now)) (length (s .floatmask .now)) at (s .call .maskk) n) (sym (k .mask-start .ensures)) (mask-row-fits r (s .b) (s .h) (s .i) (start .pre .1 .0 .0) (start .pre .1 .0 .1) (start .pre .1 .0 .2) n (visible-most a)),
       (
-        masked-scores (ready start) (fits (entry d)) (s .b) (s .h) (s .i) (start .pre .1 .0 .0) (start .pre .1 .0 .1) (start .pre .1 .0 .2)
+        capped-scores (ready start) (fits (entry d)) (s .b) (s .h) (s .i) (start .pre .1 .0 .0) (start .pre .1 .0 .1) (start .pre .1 .0 .2)
             (d .before .before .visible .result) (d .scored .result) (k .mask-start .result) (d .before .before .before .before .key-head .result) (d .before .shows .result) (visible-is d) (d .before .shows .ensures) (needed-is d) (k .mask-start .ensures) (d .before .before .before .before .key-head .ensures)
             (rowOf a) (row-cells a)
             (s .shown .now) (s .work .now) (p .score-row .last .1 .1 .1 .1 .1 .1 .1 .1 .1 .0) (p .score-row .last .1 .1 .1 .1 .1 .1 .1 .1 .1 .1 .0) (p .score-row .ensures) (start .pre .1 .1 .2),
@@ -200,14 +200,14 @@ maskOf c = c .before .before .before
 abbrev rowAt : tie.After-softmax-masked → tie.After-row-start
 rowAt c = maskOf c .before .before .before .before .before .before .before .before .before .before
 
-weights-kept : (c : tie.After-softmax-masked) → length (c .softmax-masked .last .1 .1 .1 .1 .1 .1 .1 .1 .0) ≡ totalOf (known (entry (rowAt c .before)) .args .call)
-weights-kept c = c .softmax-masked .kept .1 .1 .1 .1 .1 .1 .1 .1 .0 ∙ work-kept (maskOf c .before .before .before .before .before)
+weights-kept : (c : tie.After-softmax-masked) → length (c .softmax-masked .last .1 .1 .1 .1 .1 .1 .1 .1 .1 .0) ≡ totalOf (known (entry (rowAt c .before)) .args .call)
+weights-kept c = c .softmax-masked .kept .1 .1 .1 .1 .1 .1 .1 .1 .1 .0 ∙ work-kept (maskOf c .before .before .before .before .before)
 
 slice-reshare-prefix-output-row : tie.Need-slice-reshare-prefix-output-row
 slice-reshare-prefix-output-row c = let t = c .before .before .before .before in omega (arith, weights-kept t, visible-most (rowAt t))
 
-taken-long : (c : tie.After-softmax-masked) → length (take (rowAt c .before .before .before .visible .result) (c .softmax-masked .last .1 .1 .1 .1 .1 .1 .1 .1 .0)) ≡ rowAt c .before .before .before .visible .result
-taken-long c = length-take-le (rowAt c .before .before .before .visible .result) (c .softmax-masked .last .1 .1 .1 .1 .1 .1 .1 .1 .0) (omega (arith, weights-kept c, visible-most (rowAt c)))
+taken-long : (c : tie.After-softmax-masked) → length (take (rowAt c .before .before .before .visible .result) (c .softmax-masked .last .1 .1 .1 .1 .1 .1 .1 .1 .1 .0)) ≡ rowAt c .before .before .before .visible .result
+taken-long c = length-take-le (rowAt c .before .before .before .visible .result) (c .softmax-masked .last .1 .1 .1 .1 .1 .1 .1 .1 .1 .0) (omega (arith, weights-kept c, visible-most (rowAt c)))
 
 slice-aggregate-output-row : tie.Need-slice-aggregate-output-row
 slice-aggregate-output-row c = sym (taken-long (c .before .before .before .before .before))
@@ -259,7 +259,7 @@ returns c =
     (d .before .before .visible .result) (d .scored .result) (k .mask-start .result) (d .before .before .before .before .key-head .result) (d .before .shows .result) (visible-is d) (d .before .shows .ensures) (needed-is d) (k .mask-start .ensures) (d .before .before .before .before .key-head .ensures)
     (rowOf a) (row-cells a)
     (s .shown .now) (s .work .now) (p .score-row .last .1 .1 .1 .1 .1 .1 .1 .1 .1 .0) (p .score-row .last .1 .1 .1 .1 .1 .1 .1 .1 .1 .1 .0) (p .score-row .ensures) (start .pre .1 .1 .2)
-    (start .pre .1 .1 .1) (t .softmax-masked .last .1 .1 .1 .1 .1 .1 .1 .0) (t .softmax-masked .last .1 .1 .1 .1 .1 .1 .1 .1 .0) (t .softmax-masked .result) (t .softmax-masked .ensures) (work-kept p)
+    (start .pre .1 .1 .1) (t .softmax-masked .last .1 .1 .1 .1 .1 .1 .1 .1 .0) (t .softmax-masked .last .1 .1 .1 .1 .1 .1 .1 .1 .1 .0) (t .softmax-masked .result) (t .softmax-masked .ensures) (work-kept p)
     (o .output-row .last .1 .1 .1 .1 .1 .1 .1 .1 .1 .0) (o .output-row .ensures)
 
 pub attend-row-spec : {M : Type 1} → statement M

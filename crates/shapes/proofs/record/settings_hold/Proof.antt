@@ -36,11 +36,33 @@ scale-allowed-requires c κs = search needs
 returns-4 : tie.Need-returns-4
 unfolding settingsHold
 returns-4 c =
-    let d = c .before in
+    let d = c .before .before in
     let b = d .before .before in
     let a = b .before .before in
-    c .scale-allowed .ensures
-    ∙ rw (passes (a .if1 .left) (a .before .is-either .ensures), le-leb _ _ (b .if2 .left), passes (d .if3 .left) (d .before .mode-allowed .ensures))
+    rw (
+      passes (a .if1 .left) (a .before .is-either .ensures),
+      le-leb _ _ (b .if2 .left),
+      passes (d .if3 .left) (d .before .mode-allowed .ensures),
+      fails (c .if4 .taken) (c .before .scale-allowed .ensures),
+    )
+
+cap-allowed-requires : tie.Need-cap-allowed-requires
+cap-allowed-requires c κs = search needs
+
+returns-5 : tie.Need-returns-5
+unfolding settingsHold
+returns-5 c =
+    let e = c .before in
+    let d = e .before .before in
+    let b = d .before .before in
+    let a = b .before .before in
+    c .cap-allowed .ensures
+    ∙ rw (
+      passes (a .if1 .left) (a .before .is-either .ensures),
+      le-leb _ _ (b .if2 .left),
+      passes (d .if3 .left) (d .before .mode-allowed .ensures),
+      passes (e .if4 .left) (e .before .scale-allowed .ensures),
+    )
 
 pub settings-hold-spec : {M : Type 1} → statement M
 settings-hold-spec =
@@ -52,4 +74,6 @@ settings-hold-spec =
     mode-allowed-requires
     returns-3
     scale-allowed-requires
-    returns-4)
+    returns-4
+    cap-allowed-requires
+    returns-5)
