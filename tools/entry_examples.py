@@ -2,6 +2,7 @@
 with a cap.
 
     python3 tools/vectors.py examples    crates/entry_examples/stdout
+    python3 tools/vectors.py refusals    crates/refusal_examples/stdout
 
 A line has a label, the report (the refusal's number, tensor and index, T, fully masked rows), and the bits of the output, the
 present key, the present value, the scores and the work row after the call.
@@ -155,8 +156,15 @@ def refused_records():
         show_record(f"3 scale {label}", scale=scale)
     for label, scale in ("1024", 1024.0), ("least", LEAST):
         show_record(f"scale {label}", scale=scale)
+    for label, cap in (("-least", -LEAST), ("-30", -30.0), ("NaN", NAN), ("infinity", INFINITY), ("minus infinity", -INFINITY),
+                       ("65536.0078125", ABOVE)):
+        show_record(f"3 cap {label}", softcap=cap)
+    for label, cap in ("65536", 65536.0), ("least", LEAST), ("-0", -0.0):
+        show_record(f"cap {label}", softcap=cap)
     show_record("1 before 2", batch=9, query_heads=3, key_heads=2)
     show_record("2 before 3", query_heads=3, key_heads=2, rank=5)
+    show_record("2 before 3 by the cap", query_heads=3, key_heads=2, softcap=-1.0)
+    show_record("3 by the cap before 4", mask_kind="float", mask_dims=(3, 1, 1, 1), score_mode=1, softcap=-1.0)
 
 
 # Refusals of lengths and contents: small calls of two batches with T = 3, whose scores are weights
@@ -325,19 +333,19 @@ def capped():
     show_filled("cap counted float mask mode 1", replace(grouped, form="counted", mask_kind="float", score_mode=1))
     show("cap T 150", Record(key_length=150, scale=1.0, softcap=0.5, score_mode=2),
          query=[1.0], key=fill("past_key", 150), value=fill("past_value", 150))
-    for label, cap in (("-least", -LEAST), ("-30", -30.0), ("NaN", NAN), ("infinity", INFINITY), ("minus infinity", -INFINITY),
-                       ("65536.0078125", ABOVE)):
-        show_record(f"3 cap {label}", softcap=cap)
-    show_record("2 before 3 cap", query_heads=3, key_heads=2, softcap=-1.0)
-    show_record("3 cap before 4", **vars(replace(grouped, mask_kind="float", mask_dims=(3, 1, 1, 1), softcap=-1.0)))
 
 
 def print_lines():
+    """The lines of entry_examples."""
     examples()
+    accepted()
+    capped()
+
+
+def print_refusals():
+    """The lines of refusal_examples."""
     refused_records()
     refused_shapes()
     refused_lengths()
     refused_contents()
     order()
-    accepted()
-    capped()

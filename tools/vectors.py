@@ -3,6 +3,7 @@
     python3 tools/vectors.py vectors    crates/examples/proofs/Vectors.antt: random calls with their outcomes and scores
                                         under caps, as claims
     python3 tools/vectors.py examples   crates/entry_examples/stdout: the calls of entry_examples.py with their outcomes
+    python3 tools/vectors.py refusals   crates/refusal_examples/stdout: its refused calls
 """
 
 import math
@@ -442,7 +443,7 @@ def vectors(seed=242):
 
 
 if __name__ == "__main__":
-    commands = {"vectors": vectors, "examples": entry_examples.print_lines}
+    commands = {"vectors": vectors, "examples": entry_examples.print_lines, "refusals": entry_examples.print_refusals}
     if len(sys.argv) != 2 or sys.argv[1] not in commands:
         sys.exit(__doc__)
     commands[sys.argv[1]]()

@@ -1,10 +1,9 @@
 -- The cap of an accepted call: a score under it never exceeds it in magnitude, E is asked only where it has a value, and a cap of 0 of either sign is the call before there was a cap. Assumes nothing.
 use mathlib.Core.Path.{_≡_, refl, ap, subst, sym, _∙_}
 use Prim.Native.Nat.{ℕ, zero, suc, _-_, _*_, _<_}
-use mathlib.Core.Bool.{Bool, true, false, not, _&&_, _||_, cond, true≢false}
-use lib.Dec.{T, ltb, leb, eqb}
-use lib.IntN.{pos}
-use lib.Ieee.{Float, nan, inf, fin, binary32, div, le, lt, eq, fits}
+use mathlib.Core.Bool.{Bool, true, false, _&&_, cond}
+use lib.Dec.{T}
+use lib.Ieee.{Float, fin, binary32, div, le, lt, eq, fits}
 use lib.Ieee.Fits.{and-i}
 use lib.Ieee.Bits.{is-true}
 use lib.Ieee.Scale.{finite}
@@ -20,16 +19,16 @@ use Rattle.softmax.proofs.Cap.{capped-bounded, with-cap, no-cap, cap-asked-wher
 use Rattle.call.specs.declared.Call.{Call}
 use Rattle.call.specs.declared.Answer.the-variants.{Done}
 use Rattle.call.specs.declared.Verdict.the-variants.{Accepted}
-use Rattle.call.specs.Limits.{totalOf, modeAllowed, scaleAllowed, capAllowed, settingsHold}
+use Rattle.call.specs.Limits.{totalOf, capAllowed, settingsHold}
 use Rattle.call.specs.Tensors.{Inputs, Outputs}
-use Rattle.call.specs.Contents.{liveOf}
 use Rattle.call.specs.Refusals.{verdictOf}
 use Rattle.call.proofs.Accepted.{Accepts, verdict→accepts}
 use Rattle.attention.specs.Elements.{keyHeadOf, valueAt}
 use Rattle.attention.specs.Admission.{admits}
-use Rattle.attention.specs.Formula.{dotScore, maskedScore, cappedScore, attentionWeight, attentionOutput, rowMasked, shownScore}
-use Rattle.attention.specs.Outcomes.{presentKeyTensor, presentValueTensor, whereShown, scoresTensor, outputTensor, workRow, countWhere, maskedRowsOf, Outcome, acceptedOf}
+use Rattle.attention.specs.Formula.{maskedScore, cappedScore, attentionWeight, attentionOutput, rowMasked, shownScore}
+use Rattle.attention.specs.Outcomes.{presentKeyTensor, presentValueTensor, whereShown, scoresTensor, outputTensor, workRow, countWhere, maskedRowsOf, acceptedOf}
 use Rattle.attention.specs.Uncapped.{uncappedSettings, uncappedWeight, uncappedOutput, uncappedMasked, uncappedShown, uncappedOutcome, UncappedCase}
+use Rattle.attention.proofs.Causal.{and-true}
 use Rattle.attention.proofs.Facts.{cap-within}
 use Rattle.attention.proofs.Bounded.{MaskFits, admitted-finite}
 
@@ -67,10 +66,6 @@ zero-allowed : (z : Float) → eq z plusZero ≡ true → capAllowed z ≡ true
 zero-allowed z e =
     let h : T (eq z plusZero) = subst T (sym e) tt in
     is-true (capAllowed z) (and-i (le plusZero z) (le z elementBound) (zero-not-below z h) (le-trans z plusZero elementBound (zero-not-above z h) (unfold le in tt)))
-
-and-true : (p : Bool) → (p && true) ≡ p
-and-true true = refl
-and-true false = refl
 
 module _ (c : Call) (none : eq (c .softcap) plusZero ≡ true) where
   uncapped-settings : settingsHold c ≡ uncappedSettings c

@@ -26,7 +26,7 @@ pub scale-same : (c c' : Call) → c .scale ≡ c' .scale → c .size ≡ c' .si
 unfolding effectiveScale
 scale-same c c' p q = λ t. scaleWhere (p t) (q t)
 
-and-true : (a : Bool) → a && true ≡ a
+pub and-true : (a : Bool) → a && true ≡ a
 and-true true = refl
 and-true false = refl
 

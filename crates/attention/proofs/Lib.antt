@@ -7,6 +7,7 @@ pub mod Facts
 pub mod Bounded
 pub mod Weights
 pub mod Capped
+pub mod CapCalls
 pub mod Lengths
 pub mod Entries
 pub mod StepExamples

@@ -1,8 +1,7 @@
 -- The cap at its edges, by computation: which caps refusal 3 allows, and its place among the refusals; and no cap is part of the step profile. Assumes nothing.
 use mathlib.Core.Path.{_≡_, refl}
 use mathlib.Core.List.{[], _∷_}
-use Prim.Native.Nat.{ℕ}
-use mathlib.Core.Bool.{Bool, true, false}
+use mathlib.Core.Bool.{true, false}
 use lib.IntN.{pos, negsuc}
 use lib.Ieee.{Float, nan, inf, fin}
 use Rattle.call.specs.declared.Call.{Call}

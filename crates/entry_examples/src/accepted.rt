@@ -1,13 +1,13 @@
 // Accepted calls beyond the worked examples: both ranks, grouped heads, masks of every shape, every score mode, caches and live counts.
-use super::calls;
-use super::records;
-use super::tensors;
-use super::tensors::Fault;
 use call::Call;
 use call::Form;
 use call::MaskKind;
 use call::Scale;
 use call::ScoreMode;
+use example_calls::calls;
+use example_calls::records;
+use example_calls::tensors;
+use example_calls::tensors::Fault;
 
 // Two batches, four query heads, two key heads, two queries, three incoming keys, so many past positions, D 2, Dv 3.
 fn grouped(form: Form, mask: MaskKind, mode: usize, past: usize) -> Call {

@@ -1,12 +1,12 @@
-// Calls with a cap: rows of scores before the cap and under it, every form and mask kind, a row of 150 keys, and the caps that are refused.
-use super::calls;
-use super::records;
-use super::tensors;
+// Calls with a cap: rows of scores before the cap and under it, every form and mask kind, and a row of 150 keys.
 use call::Call;
 use call::Form;
 use call::MaskKind;
 use call::Scale;
 use call::ScoreMode;
+use example_calls::calls;
+use example_calls::records;
+use example_calls::tensors;
 
 // One query of 1 at scale 1/4: scores of +0 and -0, and of either sign near 0, near the cap and far from it.
 fn row(label: &[u8], cap: f32, mode: usize) {
@@ -118,24 +118,4 @@ pub fn long_row() {
         &mut [7.5; 150],
         &mut [7.5; 150],
     );
-}
-
-fn cap(label: &[u8], cap: f32) {
-    calls::show_record(label, records::with_cap(records::simple(Form::Plain), cap));
-}
-
-pub fn refused() {
-    cap(b"3 cap -least", -tensors::least());
-    cap(b"3 cap -30", -30.0);
-    cap(b"3 cap NaN", tensors::not_a_number());
-    cap(b"3 cap infinity", tensors::infinity());
-    cap(b"3 cap minus infinity", -tensors::infinity());
-    cap(b"3 cap 65536.0078125", 65536.0078125);
-    let call = records::with_cap(records::simple(Form::Plain), -1.0);
-    calls::show_record(
-        b"2 before 3 cap",
-        records::with_dims(call, [1, 3, 2, 1, 1, 0, 1, 1]),
-    );
-    let shape = records::with_mask_dims(grouped(Form::Plain, MaskKind::Float, 1, 0), [3, 1, 1, 1]);
-    calls::show_record(b"3 cap before 4", records::with_cap(shape, -1.0));
 }

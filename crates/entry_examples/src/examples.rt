@@ -1,13 +1,13 @@
 // The worked examples A to M of the scope document: one batch, one head, D = Dv = 1, scale 1, rank 4 unless said.
 ghost use Prim.Native.Nat.{_≤_};
-use super::calls;
-use super::records;
-use super::tensors;
 use call::Call;
 use call::Form;
 use call::MaskKind;
 use call::Scale;
 use call::ScoreMode;
+use example_calls::calls;
+use example_calls::records;
+use example_calls::tensors;
 
 // A call at scale 1 without a mask, of so many queries, keys and past positions.
 fn of_lengths(form: Form, qlen: usize, klen: usize, past: usize) -> Call {

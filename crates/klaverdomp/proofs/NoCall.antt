@@ -21,7 +21,7 @@ use Rattle.contents.proofs.Groups.{and-false}
 use Rattle.attention.specs.Outcomes.{outcomeOf}
 use Rattle.attention.specs.Entries.{stepOf}
 use Rattle.attention.proofs.Entries.{step-other}
-use Rattle.klaverdomp.specs.Record.{numberOf, scaleOf, codesNamed, rankOf, callOf}
+use Rattle.interface.specs.Record.{numberOf, scaleOf, codesNamed, rankOf, callOf}
 
 -- a record that has not 18 numbers is refusal 1, whatever is lent
 pub wrong-length-refused : (numbers : List ℕ) (scale softcap : Float) (x : Inputs) (y : Outputs) → (length numbers ≡ 18 → ⊥) → verdictOf (callOf numbers scale softcap) x y ≡ Refused Limits

@@ -4,8 +4,9 @@ use Rattle.call.specs.declared.Answer.{Answer}
 use Rattle.call.specs.Answers.{Report, reportOf}
 use Rattle.call.specs.Tensors.{Outputs}
 use Rattle.attention.specs.Outcomes.{Outcome, outcomeOf}
-use Rattle.klaverdomp.specs.declared.Numbers.{Numbers}
-use Rattle.klaverdomp.specs.Returned.{reportIn, returned, returnedOf}
+use Rattle.interface.specs.declared.Numbers.{Numbers}
+use Rattle.interface.specs.Report.{reportIn}
+use Rattle.klaverdomp.specs.Returned.{returned, returnedOf}
 
 -- the report of the answer and the tensors of an outcome are what is returned
 pub returned-is : (n : Numbers) (a : Answer) (t : Outputs) (o : Outcome) → reportIn n ≡ reportOf a → outcomeOf a t ≡ o → returned (n .number) (n .tensor) (n .index) (n .total) (n .masked) t ≡ returnedOf o

@@ -11,15 +11,8 @@ use Rattle.exponential.specs.declared.PowerEntry.{PowerEntry}
 use Rattle.exponential.specs.declared.PowerEntry.the-variants.{Entry, NoEntry}
 use Rattle.exponential.specs.declared.DefaultScale.{DefaultScale}
 use Rattle.exponential.specs.declared.DefaultScale.the-variants.{Scale, NoScale}
-use Rattle.klaverdomp.specs.declared.Numbers.{Numbers}
 
 -- ---- a call
-
-abbrev pub reportFrom : (number tensor index total masked : ℕ) → Report
-reportFrom number tensor index total masked = record { number = number; tensor = tensor; index = index; total = total; masked = masked }
-
-abbrev pub reportIn : Numbers → Report
-reportIn n = reportFrom (n .number) (n .tensor) (n .index) (n .total) (n .masked)
 
 -- the report of the answer, and the tensors as they go out
 pub record Returned : Type 0 where
@@ -27,7 +20,7 @@ pub record Returned : Type 0 where
   pub tensors : Outputs
 
 abbrev pub returned : (number tensor index total masked : ℕ) → Outputs → Returned
-returned number tensor index total masked tensors = record { report = reportFrom number tensor index total masked; tensors = tensors }
+returned number tensor index total masked tensors = record { report = record { number = number; tensor = tensor; index = index; total = total; masked = masked }; tensors = tensors }
 
 abbrev pub returnedOf : Outcome → Returned
 returnedOf o = record { report = reportOf (o .answer); tensors = o .tensors }

@@ -1,11 +1,10 @@
 -- The cap on a score: t lies from -1 to 1, a capped score never exceeds the cap in magnitude and is finite, E is asked only where it has a value, and a row is capped position by position. Assumes nothing.
-use mathlib.Core.Path.{_≡_, refl, sym, ap, _∙_, subst}
+use mathlib.Core.Path.{_≡_, refl, ap, _∙_, subst}
 use mathlib.Core.Bool.{Bool, true, false, not, cond}
 use mathlib.Core.List.{List, map}
 use Prim.Native.Nat.{ℕ, _<_}
 use lib.Dec.{T}
 use lib.ListN.{length, length-map}
-use lib.IntN.{pos}
 use lib.Ieee.{Float, nan, inf, fin, binary32, neg, add, sub, mul, div, le, lt, eq, fits, isNan}
 use lib.Ieee.Fits.{and-i}
 use lib.Ieee.Scale.{finite}
@@ -19,7 +18,7 @@ use Rattle.tensor_laws.specs.Layout.{tabulate}
 use Rattle.tensor_laws.proofs.Tabulate.{tabulate-ext, map-tabulate}
 use Rattle.exponential.specs.ExpNeg.{plusZero, one, expNegOf, valueOrZero}
 use Rattle.exponential.proofs.Laws.{InUnit, hasValue, has-value, value-or-zero-in-unit}
-use Rattle.softmax.specs.Lists.{elementOf, hidden, isHidden}
+use Rattle.softmax.specs.Lists.{hidden, isHidden}
 use Rattle.softmax.specs.Cap.{signedBy, twiceOf, ratioOf, tanhOf, cappedOf, cappedWhere, cappedOrHidden, cappedRowOf, cappedRowWhere}
 use Rattle.softmax.proofs.Bounds.{bounded, elementBound, bounded-below, bounded-above, bounded-widens, bounded-of-positive, bounded-finite, mul-bounded}
 

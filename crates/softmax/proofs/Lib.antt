@@ -6,3 +6,4 @@ pub mod Scores
 pub mod Softmax
 pub mod Positions
 pub mod Cap
+pub mod CapExamples

@@ -1,5 +1,5 @@
 -- The cap c on a score s after the mask (ONNX: softcap): s becomes c * t, where t is near tanh(s / c). Each step is one f32 operation, in the order written. Definitions only.
-use mathlib.Core.Bool.{Bool, true, false, cond}
+use mathlib.Core.Bool.{cond}
 use mathlib.Core.List.{List, map}
 use lib.Ieee.{Float, binary32, neg, add, sub, mul, div, lt, eq}
 use Rattle.exponential.specs.ExpNeg.{plusZero, one, expNegOf, valueOrZero}

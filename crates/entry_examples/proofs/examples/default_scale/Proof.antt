@@ -1,6 +1,6 @@
 -- `entry_examples::examples::default_scale` is safe: the parts that it lends are inside their arrays. Assumes nothing.
 use borrow.Author.Needs.{needs}
-use Rattle.entry_examples.proofs.Parts.{first-length}
+use Rattle.example_calls.proofs.Parts.{first-length}
 use Rattle.entry_examples.proofs.examples.default_scale.Statement.{statement}
 use Rattle.entry_examples.proofs.examples.default_scale.Tie as tie
 
