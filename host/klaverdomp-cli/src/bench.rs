@@ -179,11 +179,15 @@ fn caps(shapes: &[&Shape], time: Duration) -> Result<(), Failure> {
     ))?;
     for shape in shapes {
         let work = RefCell::new(Work::new(shape.cached().with_softcap(SOFTCAP)));
-        let without = RefCell::new(Work::new(shape.cached()));
-        let mut runs: Vec<Run> = vec![Box::new(|| work.borrow_mut().library()), Box::new(|| without.borrow_mut().library())];
         if cfg!(reference) {
             work.borrow().compare_with_plain_c()?;
-            runs.push(Box::new(|| work.borrow_mut().plain_c()));
+        }
+        let mut runs: Vec<Run> = vec![
+            Box::new(|| work.borrow_mut().at(SOFTCAP, Work::library)),
+            Box::new(|| work.borrow_mut().at(0.0, Work::library)),
+        ];
+        if cfg!(reference) {
+            runs.push(Box::new(|| work.borrow_mut().at(SOFTCAP, Work::plain_c)));
         }
         let times = interleave(shape.name, &mut runs, time);
         let (more, more_spread) = ratio(&times[0], &times[1]);
@@ -277,6 +281,12 @@ impl Work {
         let mut buffers = std::mem::take(&mut self.buffers);
         let _ = black_box(attention(&self.call, &self.inputs(), &mut buffers.lend()));
         self.buffers = buffers;
+    }
+
+    /// A run on the same tensors with this cap.
+    fn at(&mut self, softcap: f32, run: fn(&mut Work)) {
+        self.call.softcap = softcap;
+        run(self);
     }
 
     fn step(&mut self) {
