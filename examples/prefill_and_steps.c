@@ -1,5 +1,5 @@
-/* A causal prefill and then cached steps of one position, as a decoder calls attention, all with one score cap. Every output row has the
- * bits of the same row of one plain call over all positions. At the end a step with a NaN is refused and leaves its tensors as they were.
+/* A causal prefill and then cached steps of one position, as a decoder calls attention. Every output row has the bits of the same row of
+ * one plain call over all positions. At the end a step with a NaN is refused and leaves its tensors as they were.
  * The status is 0 exactly where all of that holds. */
 #include <math.h>
 #include <stdio.h>
@@ -68,7 +68,6 @@ static klaverdomp_call causal_call(uint64_t form, uint64_t past, uint64_t count)
     call.past_length = past;
     call.head_size = SIZE;
     call.value_size = VALUE_SIZE;
-    call.softcap = 30;
     return call;
 }
 

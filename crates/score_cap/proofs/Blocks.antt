@@ -22,7 +22,7 @@ use Rattle.softmax.specs.Cap.{signedBy, twiceOf, ratioOf, cappedOrHidden, cappe
 abbrev pub quotientsOf : Float → List Float → List Float
 quotientsOf c row = map (λ s. div binary32 s c) row
 
--- -(a + a) of each x, where a is x without its sign
+-- -(a + a) of each x, where a is -x where x is below 0, and else x
 abbrev pub termsOf : List Float → List Float
 termsOf xs = map (λ x. neg (twiceOf x)) xs
 

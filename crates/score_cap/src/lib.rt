@@ -28,7 +28,7 @@ fn quotients(row: &[f32], c: f32, xs: &mut [f32])
     }
 }
 
-// -(a + a), where a is x without its sign.
+// -(a + a), where a is -x where x is below 0, and else x.
 fn minus_twice(x: f32) -> f32
     ensures { λ r. ⌜ r ≡ neg (twiceOf x) ⌝ }
 {

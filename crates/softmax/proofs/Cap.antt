@@ -124,7 +124,7 @@ capped-finite c s h k =
 
 -- ---- where E is asked
 
--- what is not NaN has a sign or none, and twice it without that is not below 0
+-- of an x that is not NaN, a + a is not below 0, and a number or infinite
 pub twice-valued : (x : Float) → T (not (isNan x)) → T (hasValue (twiceOf x))
 unfolding twiceOf
 twice-valued nan n = absurd (unfold isNan in n)

@@ -9,7 +9,7 @@ use Rattle.softmax.specs.Lists.{hidden, isHidden}
 abbrev pub signedBy : Float → Float → Float
 signedBy x z = cond (lt x plusZero) (neg z) z
 
--- a + a, where a is x without its sign
+-- a + a, where a is -x where x is below 0, and else x
 unfoldable pub twiceOf : Float → Float
 unfolding add neg lt
 twiceOf x = let a = signedBy x x in add binary32 a a
