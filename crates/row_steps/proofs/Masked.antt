@@ -1,6 +1,5 @@
--- A mask whose cells for a row start at an index, with a last dimension that is repeated or not: which positions it admits, and what it does to the row's scores. Assumes nothing.
+-- A mask whose cells for a row start at an index, with a last dimension that is repeated or not: what it does to the row's scores. Assumes nothing.
 use mathlib.Core.Path.{_≡_, refl, sym, ap, _∙_}
-use mathlib.Core.Bool.{Bool}
 use mathlib.Core.List.{List, map}
 use Prim.Native.Nat.{ℕ, _+_}
 use native.Mathlib.Nat.{add-zero}
@@ -13,12 +12,8 @@ use Rattle.softmax.specs.Lists.{elementOf}
 use Rattle.call.specs.declared.MaskKind.{MaskKind}
 use Rattle.call.specs.declared.MaskKind.the-variants.{NoMask, Boolean, Float as FloatMask}
 use Rattle.attention.specs.Admission.{repeated}
-use Rattle.row_steps.specs.Steps.{admittedBy, maskedBy, maskedRowBy}
+use Rattle.row_steps.specs.Steps.{maskedBy, maskedRowBy}
 use Rattle.tensor_laws.proofs.Tails.{partOf, getD-part}
-
--- the mask admits position k
-abbrev pub admitsAt : MaskKind → List ℕ → List Float → (at width k : ℕ) → Bool
-admitsAt kind bytes cells at width k = admittedBy kind bytes cells (at + repeated width k)
 
 -- a dimension of 1 is read at 0
 repeated-one : (width j : ℕ) → width ≡ 1 → repeated width j ≡ 0

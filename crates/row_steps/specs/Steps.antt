@@ -1,15 +1,14 @@
--- What the steps of a row do to its lists: the run of positions that it may see, the mask and the cap on a row of scores, the scores shown, and the weighted sum over the positions that the mask leaves. Definitions only.
+-- What the steps of a row do to its lists: the run of positions that it may see, the mask and the cap on a row of scores, softmax, and the scores shown. Definitions only.
 use mathlib.Core.Path.{_≡_}
-use mathlib.Core.Bool.{Bool, true, false, not, _&&_, cond}
+use mathlib.Core.Bool.{Bool, true, false, _&&_, cond}
 use mathlib.Core.List.{List, _++_}
-use Prim.Native.Nat.{ℕ, zero, suc, _+_, _-_, _<_, _≤_}
+use Prim.Native.Nat.{ℕ, _+_, _-_, _<_, _≤_}
 use lib.Dec.{eqb, leb}
 use lib.ListN.{length, getD, replicate}
-use lib.Ieee.{Float, binary32, add, mul}
+use lib.Ieee.{Float, binary32, add}
 use Rattle.tensor_laws.specs.Layout.{tabulate}
 use Rattle.exponential.specs.ExpNeg.{plusZero}
-use Rattle.softmax.specs.Row.{addWhere}
-use Rattle.softmax.specs.Lists.{elementOf, hidden, isHidden, softmaxRowOf, maskedRowOf}
+use Rattle.softmax.specs.Lists.{elementOf, hidden, softmaxRowOf, maskedRowOf}
 use Rattle.softmax.specs.Cap.{cappedRowWhere}
 use Rattle.call.specs.declared.Call.{Call}
 use Rattle.call.specs.declared.MaskKind.{MaskKind}
@@ -33,18 +32,6 @@ abbrev pub maskStart : MaskKind → Call → (b h i : ℕ) → ℕ
 maskStart NoMask c b h i = 0
 maskStart Boolean c b h i = maskIndex c b h i 0
 maskStart FloatMask c b h i = maskIndex c b h i 0
-
--- the mask has a cell at that index
-abbrev pub maskHas : MaskKind → (bytes cells at : ℕ) → Type 0
-maskHas NoMask bytes cells at = Unit
-maskHas Boolean bytes cells at = at < bytes
-maskHas FloatMask bytes cells at = at < cells
-
--- the mask admits the key whose cell stands at that index
-abbrev pub admittedBy : MaskKind → List ℕ → List Float → ℕ → Bool
-admittedBy NoMask bytes cells at = true
-admittedBy Boolean bytes cells at = not (eqb (getD bytes at 0) 0)
-admittedBy FloatMask bytes cells at = not (isHidden (elementOf cells at))
 
 -- a score under the mask cell at that index: a boolean 0 hides it, and a float is added
 abbrev pub maskedBy : MaskKind → List ℕ → List Float → ℕ → Float → Float
@@ -91,23 +78,3 @@ pub record SoftmaxDone (mode : ScoreMode) (softcap : Float) (masked shown₀ : L
   pub weights : work ≡ paddedTo n plusZero (softmaxRowOf (cappedRowWhere softcap masked))
   pub told : blind ≡ maskedRowOf (cappedRowWhere softcap masked)
   pub shows : shown ≡ shownWhere (showsOf mode 3 3) plusZero work (shownWhere (showsOf mode 2 2) hidden (cappedRowWhere softcap masked) (shownWhere (showsOf mode 1 1) hidden masked shown₀))
-
--- ---- the weighted sum
-
--- e is the end of the run of seen positions that starts at j, among n: all of them are seen, and e is n or not seen
-pub record RunEnd (sees : ℕ → Bool) (j n e : ℕ) : Type 0 where
-  pub start : j ≤ e
-  pub inside : e ≤ n
-  pub seen : (k : ℕ) → j ≤ k → k < e → sees k ≡ true
-  pub stop : e < n → sees e ≡ false
-
--- x with weight * value added for each seen position of n, rising
-unfoldable pub addedOf : ℕ → (ℕ → Bool) → (ℕ → Float) → (ℕ → Float) → Float → Float
-unfolding mul
-addedOf zero sees weight value x = x
-addedOf (suc n) sees weight value x = addWhere (sees n) (addedOf n sees weight value x) (mul binary32 (weight n) (value n))
-
--- each column of the output row with the weighted values of the seen positions added
-unfoldable pub addedRowOf : ℕ → (ℕ → Bool) → (ℕ → Float) → (ℕ → ℕ → Float) → List Float → List Float
-unfolding tabulate addedOf
-addedRowOf n sees weight value out = tabulate (length out) (λ k. addedOf n sees weight (λ j. value j k) (elementOf out k))

@@ -28,7 +28,8 @@ use Rattle.attention.specs.Admission.{repeated, admits}
 use Rattle.attention.specs.Formula.{effectiveScale, dotScore, maskedScore, cappedScore, attentionWeight}
 use Rattle.attention.proofs.Facts.{live-le-total}
 use Rattle.attention.proofs.Bounded.{MaskFits, admitted-finite}
-use Rattle.row_steps.specs.Steps.{visibleOf, maskStart, admittedBy, maskedBy, maskedRowBy, showsOf, paddedTo, shownWhere, addedRowOf, SoftmaxDone}
+use Rattle.row_steps.specs.Steps.{visibleOf, maskStart, maskedBy, maskedRowBy, showsOf, paddedTo, shownWhere, SoftmaxDone}
+use Rattle.admitted_sum.specs.Sums.{admittedBy, addedRowOf}
 use Rattle.row_steps.proofs.Masked.{masked-tabulated}
 use Rattle.rows.specs.Unit.{shownAt, Accepting, ScoresDone, RowDone}
 use Rattle.rows.proofs.Seen.{visible, visible-live, visible-total, marked}

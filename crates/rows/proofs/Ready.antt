@@ -24,7 +24,8 @@ use Rattle.attention.proofs.Facts.{key-head-lt}
 use Rattle.attention.proofs.Bounded.{mask-index-lt}
 use Rattle.caches.specs.Fits.{RowFits}
 use Rattle.caches.proofs.Lengths.{past-length}
-use Rattle.row_steps.specs.Steps.{maskStart, maskHas, maskRowFits}
+use Rattle.row_steps.specs.Steps.{maskStart, maskRowFits}
+use Rattle.admitted_sum.specs.Sums.{maskHas}
 use Rattle.row_steps.proofs.Masked.{repeated-full}
 use Rattle.rows.specs.Unit.{Accepting, RunFits}
 use Rattle.rows.proofs.Seen.{index-from-start}

@@ -33,8 +33,9 @@ use Rattle.attention.specs.Admission.{repeated, admits}
 use Rattle.attention.specs.Formula.{dotScore, maskedScore, cappedScore, attentionWeight, attentionOutput, rowMasked, shownScore}
 use Rattle.attention.proofs.Facts.{live-le-total}
 use Rattle.attention.proofs.Bounded.{MaskFits, capped-score-finite}
-use Rattle.row_steps.specs.Steps.{maskStart, admittedBy, showsOf, paddedTo, shownWhere, addedRowOf}
-use Rattle.row_steps.proofs.Added.{added-row-agree, added-row-output}
+use Rattle.row_steps.specs.Steps.{maskStart, showsOf, paddedTo, shownWhere}
+use Rattle.admitted_sum.specs.Sums.{admittedBy, addedRowOf}
+use Rattle.admitted_sum.proofs.Added.{added-row-agree, added-row-output}
 use Rattle.rows.specs.Unit.{shownAt}
 use Rattle.rows.proofs.Seen.{visible, visible-total, admits-visible, admits-beyond, mask-admits}
 

@@ -19,9 +19,9 @@ use Rattle.attention.specs.Elements.{positionCell}
 use Rattle.caches.specs.Fits.{CacheFits}
 use Rattle.caches.specs.Rows.{rowsFrom, strideFrom}
 use Rattle.caches.proofs.Positions.{rows-from-cell, rows-from-inside}
-use Rattle.row_steps.specs.Steps.{addedRowOf}
+use Rattle.admitted_sum.specs.Sums.{addedRowOf}
 use Rattle.tensor_laws.proofs.Tails.{partOf, length-part, getD-part}
-use Rattle.row_steps.proofs.Added.{added-row-agree, added-row-runs}
+use Rattle.admitted_sum.proofs.Added.{added-row-agree, added-row-runs}
 use Rattle.rows.specs.Unit.{Smaller, RunFits}
 
 -- a run that is not empty starts with the row of a position

@@ -24,7 +24,8 @@ use Rattle.attention.specs.Formula.{dotScore, withMask, maskedScore}
 use Rattle.attention.proofs.Facts.{live-le-total}
 use Rattle.attention.proofs.Bounded.{dot-score-bounded}
 use Rattle.row_steps.proofs.MaskStart.{repeated-zero}
-use Rattle.row_steps.specs.Steps.{visibleOf, maskStart, admittedBy, maskedBy}
+use Rattle.row_steps.specs.Steps.{visibleOf, maskStart, maskedBy}
+use Rattle.admitted_sum.specs.Sums.{admittedBy}
 
 -- ---- the run of visible positions
 

@@ -14,7 +14,7 @@ ghost use Rattle.attention.specs.Elements.{positionCell, keyHeadOf};
 ghost use Rattle.attention.specs.Admission.{repeated};
 ghost use Rattle.attention.specs.Formula.{effectiveScale};
 ghost use Rattle.attention.specs.Outcomes.{tally};
-ghost use Rattle.row_steps.specs.Steps.{maskHas, admittedBy, addedRowOf};
+ghost use Rattle.admitted_sum.specs.Sums.{maskHas, admittedBy, addedRowOf};
 ghost use Rattle.rows.specs.Unit.{Smaller, ScoresDone, Accepting, RunFits, RowDone, HeadDone};
 use call::Call;
 use call::Scale;
@@ -146,7 +146,7 @@ fn weigh_run<'a>(
     let kind = call.mask;
     let values = caches::rows_from(call, past, incoming, size, b, g, from);
     let stride = caches::row_stride(call, size, from);
-    row_steps::weigh_admitted(
+    admitted_sum::weigh_admitted(
         kind,
         bytes,
         cells,

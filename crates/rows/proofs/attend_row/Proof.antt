@@ -17,7 +17,8 @@ use Rattle.attention.proofs.Bounded.{MaskFits}
 use Rattle.attention.specs.Elements.{queryAt}
 use Rattle.attention.specs.Admission.{repeated}
 use Rattle.softmax.specs.Lists.{elementOf}
-use Rattle.row_steps.specs.Steps.{visibleOf, maskStart, maskHas, maskRowFits}
+use Rattle.row_steps.specs.Steps.{visibleOf, maskStart, maskRowFits}
+use Rattle.admitted_sum.specs.Sums.{maskHas}
 use Rattle.row_steps.proofs.Shown.{shows-room}
 use Rattle.rows.specs.Unit.{Accepting, RunFits}
 use Rattle.rows.proofs.Ready.{accepts, limits, lengths, group-some, query-row-fits, query-row-end, key-run, value-run, mask-has, mask-row-fits, mask-start-small}

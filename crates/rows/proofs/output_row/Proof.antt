@@ -9,7 +9,7 @@ use Rattle.exponential.specs.ExpNeg.{plusZero}
 use Rattle.softmax.specs.Lists.{elementOf}
 use Rattle.attention.specs.Elements.{positionCell}
 use Rattle.attention.specs.Admission.{repeated}
-use Rattle.row_steps.specs.Steps.{admittedBy, addedRowOf}
+use Rattle.admitted_sum.specs.Sums.{admittedBy, addedRowOf}
 use Rattle.rows.proofs.output_row.Statement.{statement}
 use Rattle.rows.proofs.output_row.Tie as tie
 

@@ -11,9 +11,9 @@ use lib.Ieee.{Float}
 use Rattle.softmax.specs.Lists.{elementOf}
 use Rattle.attention.specs.Elements.{positionCell}
 use Rattle.attention.specs.Admission.{repeated}
-use Rattle.row_steps.specs.Steps.{maskHas, admittedBy, addedRowOf}
+use Rattle.admitted_sum.specs.Sums.{maskHas, admittedBy, addedRowOf}
 use Rattle.tensor_laws.proofs.Tails.{partOf, length-part}
-use Rattle.row_steps.proofs.Added.{length-added}
+use Rattle.admitted_sum.proofs.Added.{length-added}
 use Rattle.rows.proofs.Runs.{first-run, second-run, two-runs}
 use Rattle.rows.proofs.weigh_positions.Statement.{statement}
 use Rattle.rows.proofs.weigh_positions.Tie as tie

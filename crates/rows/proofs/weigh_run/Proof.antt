@@ -11,8 +11,8 @@ use Rattle.softmax.specs.Lists.{elementOf}
 use Rattle.attention.specs.Elements.{positionCell}
 use Rattle.attention.specs.Admission.{repeated}
 use Rattle.caches.specs.Rows.{rowsFrom}
-use Rattle.row_steps.specs.Steps.{admittedBy, addedRowOf}
-use Rattle.row_steps.proofs.Added.{added-row-none}
+use Rattle.admitted_sum.specs.Sums.{admittedBy, addedRowOf}
+use Rattle.admitted_sum.proofs.Added.{added-row-none}
 use Rattle.rows.proofs.Runs.{run-start, run-inside, run-weighed}
 use Rattle.rows.proofs.weigh_run.Statement.{statement}
 use Rattle.rows.proofs.weigh_run.Tie as tie

@@ -1,9 +1,9 @@
--- `row_steps::cell_at` meets its contract. Assumes nothing.
+-- `admitted_sum::cell_at` meets its contract. Assumes nothing.
 use borrow.Author.Needs.{needs}
 use borrow.Author.Tests.{eq-eqb, ne-eqb}
 use native.Mathlib.Nat.{add-zero}
-use Rattle.row_steps.proofs.cell_at.Statement.{statement}
-use Rattle.row_steps.proofs.cell_at.Tie as tie
+use Rattle.admitted_sum.proofs.cell_at.Statement.{statement}
+use Rattle.admitted_sum.proofs.cell_at.Tie as tie
 
 add-result : tie.Need-add-result
 add-result c = search needs

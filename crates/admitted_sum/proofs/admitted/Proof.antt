@@ -1,4 +1,4 @@
--- `row_steps::admitted` meets its contract. The code's comparison of a cell with minus infinity is the test for a hidden one. Assumes nothing.
+-- `admitted_sum::admitted` meets its contract. The code's comparison of a cell with minus infinity is the test for a hidden one. Assumes nothing.
 use mathlib.Core.Path.{_≡_, refl, subst}
 use mathlib.Core.Bool.{true, false, not}
 use Prim.Native.Nat.{_<_}
@@ -8,9 +8,9 @@ use lib.ListN.{length}
 use lib.Ieee.{Float, nan, inf, fin, neg, ne, ofBits, nanBits}
 use Rattle.softmax.specs.Lists.{elementOf, hidden, isHidden}
 use Rattle.call.specs.declared.MaskKind.{MaskKind}
-use Rattle.row_steps.specs.Steps.{maskHas}
-use Rattle.row_steps.proofs.admitted.Statement.{statement}
-use Rattle.row_steps.proofs.admitted.Tie as tie
+use Rattle.admitted_sum.specs.Sums.{maskHas}
+use Rattle.admitted_sum.proofs.admitted.Statement.{statement}
+use Rattle.admitted_sum.proofs.admitted.Tie as tie
 
 enum-told : tie.Need-enum-told
 enum-told c = search needs

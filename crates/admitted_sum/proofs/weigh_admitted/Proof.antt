@@ -1,4 +1,4 @@
--- `row_steps::weigh_admitted` meets its contract. The loop's invariant: the positions before j are weighed; j is one past the end after a run that the end stops. Assumes nothing.
+-- `admitted_sum::weigh_admitted` meets its contract. The loop's invariant: the positions before j are weighed; j is one past the end after a run that the end stops. Assumes nothing.
 use mathlib.Core.Path.{_≡_, sym, ap, _∙_}
 use mathlib.Core.Bool.{Bool}
 use mathlib.Core.List.{List}
@@ -11,12 +11,11 @@ use lib.ListN.{length, take, drop}
 use lib.Ieee.{Float}
 use Rattle.softmax.specs.Lists.{weightedRowsOf}
 use Rattle.call.specs.declared.MaskKind.{MaskKind}
-use Rattle.row_steps.specs.Steps.{RunEnd}
+use Rattle.admitted_sum.specs.Sums.{RunEnd}
 use Rattle.tensor_laws.proofs.Tails.{partOf, length-part}
-use Rattle.row_steps.proofs.Masked.{admitsAt}
-use Rattle.row_steps.proofs.Weighed.{run-from, weighedTo, weighed-none, length-weighed, weighed-run, weighed-stop}
-use Rattle.row_steps.proofs.weigh_admitted.Statement.{statement}
-use Rattle.row_steps.proofs.weigh_admitted.Tie as tie
+use Rattle.admitted_sum.proofs.Weighed.{admitsAt, run-from, weighedTo, weighed-none, length-weighed, weighed-run, weighed-stop}
+use Rattle.admitted_sum.proofs.weigh_admitted.Statement.{statement}
+use Rattle.admitted_sum.proofs.weigh_admitted.Tie as tie
 
 -- the mask admits position j of those given
 abbrev seesOf : MaskKind → List ℕ → List Float → (at width from j : ℕ) → Bool

@@ -1,4 +1,4 @@
--- `row_steps::run_end` meets its contract. The loop's invariant: every position from j to e is admitted. Assumes nothing.
+-- `admitted_sum::run_end` meets its contract. The loop's invariant: every position from j to e is admitted. Assumes nothing.
 use mathlib.Core.Path.{_≡_, sym, ap, subst, _∙_}
 use mathlib.Core.Bool.{true}
 use Prim.Native.Nat.{ℕ, _-_, _<_, _≤_}
@@ -9,10 +9,10 @@ use borrow.Author.Count.{below-more}
 use borrow.Author.Tests.{not-true, not-false}
 use lib.ListN.{length}
 use Rattle.call.specs.declared.MaskKind.{MaskKind}
-use Rattle.row_steps.specs.Steps.{maskHas, admittedBy}
-use Rattle.row_steps.proofs.Masked.{admitsAt}
-use Rattle.row_steps.proofs.run_end.Statement.{statement}
-use Rattle.row_steps.proofs.run_end.Tie as tie
+use Rattle.admitted_sum.specs.Sums.{maskHas, admittedBy}
+use Rattle.admitted_sum.proofs.Weighed.{admitsAt}
+use Rattle.admitted_sum.proofs.run_end.Statement.{statement}
+use Rattle.admitted_sum.proofs.run_end.Tie as tie
 
 abbrev Inv-loop : tie.InvT-loop
 Inv-loop kind bytes cells at width j n e₀ e = (j ≤ e) × (e ≤ n) × ((k : ℕ) → j ≤ k → k < e → admitsAt kind bytes cells at width k ≡ true)

@@ -13,7 +13,7 @@ use Rattle.exponential.specs.ExpNeg.{plusZero}
 use Rattle.softmax.specs.Row.{addWhere, outputOf}
 use Rattle.softmax.specs.Lists.{elementOf}
 use Rattle.softmax.proofs.Structure.{output-none, output-skip, output-one}
-use Rattle.row_steps.specs.Steps.{addedOf, addedRowOf}
+use Rattle.admitted_sum.specs.Sums.{addedOf, addedRowOf}
 
 -- ---- one column
 

@@ -15,10 +15,16 @@ use Rattle.tensor_laws.specs.Layout.{tabulate}
 use Rattle.tensor_laws.proofs.Tabulate.{length-tabulate, getD-tabulate, tabulate-ext, tabulate-getD}
 use Rattle.softmax.specs.Row.{addWhere}
 use Rattle.softmax.specs.Lists.{elementOf, accumulatedOf, weightedRowsOf}
-use Rattle.row_steps.specs.Steps.{RunEnd, addedOf, addedRowOf}
+use Rattle.call.specs.declared.MaskKind.{MaskKind}
+use Rattle.attention.specs.Admission.{repeated}
+use Rattle.admitted_sum.specs.Sums.{admittedBy, RunEnd, addedOf, addedRowOf}
 use Rattle.tensor_laws.proofs.Tails.{partOf, getD-part}
 
 -- ---- the end of a run
+
+-- the mask admits position k
+abbrev pub admitsAt : MaskKind → List ℕ → List Float → (at width k : ℕ) → Bool
+admitsAt kind bytes cells at width k = admittedBy kind bytes cells (at + repeated width k)
 
 -- the end of a run of positions that are counted from `from` on
 pub run-from : (sees : ℕ → Bool) (from j n r : ℕ) → RunEnd sees (from + j) (from + n) r → RunEnd (λ k. sees (from + k)) j n (r - from)
