@@ -18,8 +18,9 @@ use Rattle.tensor_laws.specs.Layout.{tabulate}
 use Rattle.tensor_laws.proofs.Tabulate.{tabulate-ext, map-tabulate}
 use Rattle.exponential.specs.ExpNeg.{plusZero, one, expNegOf, valueOrZero}
 use Rattle.exponential.proofs.Laws.{InUnit, hasValue, has-value, value-or-zero-in-unit}
-use Rattle.softmax.specs.Lists.{hidden, isHidden}
+use Rattle.softmax.specs.Lists.{elementOf, hidden, isHidden, isScoreRow}
 use Rattle.softmax.specs.Cap.{signedBy, twiceOf, ratioOf, tanhOf, cappedOf, cappedWhere, cappedOrHidden, cappedRowOf, cappedRowWhere}
+use Rattle.softmax.proofs.Scores.{isScore, score-at}
 use Rattle.softmax.proofs.Bounds.{bounded, elementBound, bounded-below, bounded-above, bounded-widens, bounded-of-positive, bounded-finite, mul-bounded}
 
 -- ---- (1 - g) / (1 + g), for a g from 0 to 1
@@ -144,6 +145,20 @@ twice-valued (fin s m e) n = go (lt (fin s m e) plusZero) (lt→le (fin s m e) p
 -- E is never asked below 0 or at NaN, where the score is finite and the cap is above 0; s / c may be infinite
 pub cap-asked-where-valued : (c s : Float) → T (finite s) → T (finite c) → T (lt plusZero c) → T (hasValue (twiceOf (div binary32 s c)))
 cap-asked-where-valued c s f g h = twice-valued (div binary32 s c) (div-not-nan binary32 s c f g h)
+
+hidden-quotient : (c : Float) → T (finite c) → T (not (isNan (div binary32 hidden c)))
+unfolding div isNan
+hidden-quotient (fin t n d) f = tt
+
+-- nor over a row of scores, at hidden positions too
+pub cap-asked-in-row : (c : Float) (row : List Float) → T (finite c) → T (lt plusZero c) → T (isScoreRow row) → (j : ℕ) → j < length row → T (hasValue (twiceOf (div binary32 (elementOf row j) c)))
+cap-asked-in-row c row f h scores j l = go (elementOf row j) (score-at row scores j l)
+  where
+    go : (s : Float) → T (isScore s) → T (hasValue (twiceOf (div binary32 s c)))
+    go nan t = absurd t
+    go (inf true) t = twice-valued (div binary32 hidden c) (hidden-quotient c f)
+    go (inf false) t = absurd t
+    go (fin u m e) t = cap-asked-where-valued c (fin u m e) tt f h
 
 -- ---- none, and a row position by position
 
