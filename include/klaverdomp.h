@@ -5,8 +5,10 @@
  *
  * EDITION. The number at the end of a name is the edition of the binary interface. A change of a record, a parameter or a meaning gives
  * the function the next number, so a program compiled with an older header does not link; it never computes other bits.
- * Objects that hand structs of this header to each other are compiled with one header: a klaverdomp_call of the former edition has the
- * same size, and any bytes at all where softcap stands.
+ * Edition 3 of attention and step has the parameters of edition 2, and other bits: a dot product is (lane 0 + lane 1) + (lane 2 + lane 3),
+ * where each lane starts at +0 and takes the products whose index has its number as the remainder by 4, the index rising.
+ * Objects that hand structs of this header to each other are compiled with one header: a klaverdomp_call of edition 1 has the same size,
+ * and any bytes at all where softcap stands.
  *
  * OWNERSHIP. The caller owns all memory and lends it for the length of a call. Nothing is allocated, kept or freed. The lengths count
  * elements, and are true: that many elements stand at the pointer, which is aligned for its type. A null pointer stands for an empty
@@ -212,10 +214,10 @@ typedef struct klaverdomp_answer {
 
 /* The numbers of the record, in their order: form, mask, scale_kind, score_mode, rank, causal, batches, query_heads, key_heads,
  * query_length, key_length, past_length, head_size, value_size and the four of mask_dims. Scale and softcap stand beside them. Any other
- * count than 18 is refusal 1 of klaverdomp_attention_2 and refusal 10 of klaverdomp_step_2. */
+ * count than 18 is refusal 1 of klaverdomp_attention_3 and refusal 10 of klaverdomp_step_3. */
 enum { KLAVERDOMP_RECORD_NUMBERS = 18 };
 
-uint32_t klaverdomp_attention_2(
+uint32_t klaverdomp_attention_3(
     const uint64_t *record, size_t record_len,
     float scale, float softcap,
     const float *query, size_t query_len,
@@ -233,7 +235,7 @@ uint32_t klaverdomp_attention_2(
     float *work, size_t work_len,
     uint64_t *tensor, uint64_t *index, uint64_t *total, uint64_t *masked_rows);
 
-uint32_t klaverdomp_step_2(
+uint32_t klaverdomp_step_3(
     const uint64_t *record, size_t record_len,
     float scale, float softcap,
     const float *query, size_t query_len,
@@ -279,7 +281,7 @@ static inline klaverdomp_answer klaverdomp_attention(const klaverdomp_call *call
     const int64_t no_count = 0;
     float no_float = 0.0f;
     klaverdomp_answer answer;
-    answer.refusal = klaverdomp_attention_2(
+    answer.refusal = klaverdomp_attention_3(
         record.numbers, KLAVERDOMP_RECORD_NUMBERS,
         call->scale, call->softcap,
         t.query ? t.query : &no_float, t.query ? t.query_len : 0,
@@ -307,7 +309,7 @@ static inline klaverdomp_answer klaverdomp_step(const klaverdomp_call *call, con
     const klaverdomp_record record = klaverdomp_record_of(call);
     float no_float = 0.0f;
     klaverdomp_answer answer;
-    answer.refusal = klaverdomp_step_2(
+    answer.refusal = klaverdomp_step_3(
         record.numbers, KLAVERDOMP_RECORD_NUMBERS,
         call->scale, call->softcap,
         t.query ? t.query : &no_float, t.query ? t.query_len : 0,

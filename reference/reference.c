@@ -224,10 +224,14 @@ static int admits(const struct view *view, size_t j) {
 
 /* ---- Rounding order: one row ---- */
 
-/* Step 1. */
+/* Step 1. Lane l takes the products whose k has remainder l by 4, k rising. A lane without a product is +0. */
 static float score(const float *query, const float *key, size_t D, float scale) {
-    float dot = 0.0f;
-    for (size_t k = 0; k < D; k++) dot += query[k] * key[k];
+    float lane[4];
+    for (size_t l = 0; l < 4; l++) {
+        lane[l] = 0.0f;
+        for (size_t k = l; k < D; k += 4) lane[l] += query[k] * key[k];
+    }
+    const float dot = (lane[0] + lane[1]) + (lane[2] + lane[3]);
     return dot * scale;
 }
 

@@ -1,4 +1,4 @@
-/* A plain f32 attention operator that does every operation in the order of the scope document.
+/* A plain f32 attention operator that does every operation in the order of the scope document and its changes.
  *
  * It is written from that document and the change requests alone and shares nothing with the library; the differential
  * tests hold the two to the same bits, and the benchmark times the library against it. Compile with

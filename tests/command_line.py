@@ -132,6 +132,17 @@ def known_calls(tool):
     tool.output("K", "y.npy", (1, 1, 1, 1), [2.0])
 
 
+def dot_products(tool):
+    """Products whose order shows: 65536 + 1/256 is 65536."""
+    unit = 1 / 256
+    for key, dot in (([65536, unit, -65536], 0.0), ([unit, 65536, unit, -65536], unit), ([65536, unit, 0, 0, -65536], unit),
+                     ([unit, 65536, 0, 0, unit, -65536], 2 * unit)):
+        shape = (1, 1, 1, len(key))
+        qkv(tool, [1] * len(key), key, [1], shape, shape)
+        tool.done("a dot product", "--scale", "1", "--mode", "0", "--scores", "s.npy")
+        tool.output(f"the dot product of {key}", "s.npy", (1, 1, 1, 1), [dot])
+
+
 def capped_calls(tool):
     """Scores of 20 and -3 under a cap of 2, no cap, and the least and the largest one."""
     qkv(tool, [1], [20, -3], [2, 4])
@@ -307,8 +318,8 @@ def main():
         sys.exit(__doc__)
     with tempfile.TemporaryDirectory() as folder:
         tool = Tool(Path(sys.argv[1]).resolve(), Path(folder))
-        for test in (known_calls, capped_calls, chunks, capped_chunks, bad_files, refused_calls, bad_usage, demonstration,
-                     measurements, closed_output):
+        for test in (known_calls, dot_products, capped_calls, chunks, capped_chunks, bad_files, refused_calls, bad_usage,
+                     demonstration, measurements, closed_output):
             test(tool)
         print(f"command line: {tool.checks} checks passed")
 

@@ -274,6 +274,35 @@ static void caps(void)
     }
 }
 
+/* Five products whose order shows: 65536 + 1/256 is 65536. Their sum is 1/256, as that of the past key, so each weighs a half. */
+static void dot_products(void)
+{
+    static float ones[5] = { 1, 1, 1, 1, 1 }, five[5] = { 65536.0f, 1.0f / 256, 0, 0, -65536.0f };
+    static float past[5] = { 1.0f / 256, 0, 0, 0, 0 }, present[10];
+    klaverdomp_answer a;
+    two_keys();
+    call.head_size = 5;
+    call.key_length = 1;
+    call.score_mode = KLAVERDOMP_SCALED_SCORES;
+    t.query = ones;
+    t.key = five;
+    t.query_len = t.key_len = 5;
+    t.value_len = t.work_len = t.scores_len = 1;
+    t.scores = scores;
+    a = klaverdomp_attention(&call, &t);
+    expect(a.refusal == KLAVERDOMP_DONE && bits(scores[0]) == 0x3b800000u, "the order of a dot product");
+    one_step();
+    call.head_size = 5;
+    step.query = ones;
+    step.key = five;
+    step.past_key = past;
+    step.present_key = present;
+    step.query_len = step.key_len = step.past_key_len = 5;
+    step.present_key_len = 10;
+    a = klaverdomp_step(&call, &step);
+    expect(a.refusal == KLAVERDOMP_DONE && work[0] == 0.5f && work[1] == 0.5f && output[0] == 9, "the order of a dot product in a step");
+}
+
 /* A record with another count of numbers than 18. */
 static void record_lengths(void)
 {
@@ -286,7 +315,7 @@ static void record_lengths(void)
     for (i = 0; i <= KLAVERDOMP_RECORD_NUMBERS; i++)
         record[i] = 1;
     for (i = 0; i <= KLAVERDOMP_RECORD_NUMBERS + 1; i++) {
-        uint32_t refusal = klaverdomp_attention_2(record, i, 1, 0, &none, 0, &none, 0, &none, 0, &no_byte, 0, &none, 0, &none, 0, &none, 0,
+        uint32_t refusal = klaverdomp_attention_3(record, i, 1, 0, &none, 0, &none, 0, &none, 0, &no_byte, 0, &none, 0, &none, 0, &none, 0,
                                                   &no_count, 0, &none, 0, &none, 0, &none, 0, &none, 0, &none, 0, &tensor, &index, &total,
                                                   &masked);
         expect(refusal == (i == KLAVERDOMP_RECORD_NUMBERS ? 3u : 1u), "a record's length");
@@ -297,7 +326,7 @@ static void record_lengths(void)
     record[3] = KLAVERDOMP_NO_SCORES;
     record[4] = 4;
     for (i = 0; i <= KLAVERDOMP_RECORD_NUMBERS + 1; i++) {
-        uint32_t refusal = klaverdomp_step_2(record, i, 1, 0, &none, 0, &none, 0, &none, 0, &none, 0, &none, 0, &none, 0, &none, 0,
+        uint32_t refusal = klaverdomp_step_3(record, i, 1, 0, &none, 0, &none, 0, &none, 0, &none, 0, &none, 0, &none, 0, &none, 0,
                                              &none, 0, &none, 0, &tensor, &index, &total, &masked);
         expect(refusal == (i == KLAVERDOMP_RECORD_NUMBERS ? 5u : 10u), "the length of a step's record");
         expect(tensor == 0 && index == 0 && total == 0 && masked == 0, "a step's numbers are written");
@@ -332,6 +361,7 @@ int main(void)
     calls_that_are_refused();
     steps();
     caps();
+    dot_products();
     record_lengths();
     values();
     for (n = 0; n <= KLAVERDOMP_PROFILE; n++)

@@ -1,6 +1,6 @@
 #!/usr/bin/env bash
 # The header compiles without a warning as C99 and as C++, a program that calls each of its functions ends with status 0 from either, and
-# so does the worked example. A program that calls a function of the former edition does not link.
+# so does the worked example. A program that calls a function of a former edition does not link.
 # KLAVERDOMP_LIB_DIR names a folder with libklaverdomp.a; without it the static library is made where it is missing.
 set -eu
 cd "$(dirname "$0")/.."
@@ -28,8 +28,11 @@ fails() { # WORDS
     exit 1
 }
 for function in klaverdomp_attention klaverdomp_step; do
-    links "${function}_2" || fails "${function}_2 does not link"
-    ! links "${function}_1" || fails "${function}_1 links"
-    grep -q "undefined reference to .${function}_1'" "$made/words" || fails "${function}_1 is not what is missing"
+    links "${function}_3" || fails "${function}_3 does not link"
+    for former in "${function}_1" "${function}_2"; do
+        ! links "$former" || fails "$former links"
+        missing=$(sed -n "s/.*undefined reference to .\(.*\)'$/\1/p" "$made/words" | sort -u)
+        [ "$missing" = "$former" ] || fails "$former is not what is missing"
+    done
 done
 echo "header: ok"

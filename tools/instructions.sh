@@ -20,11 +20,11 @@ count() { # FUNCTION B Hq Hkv P S D [SOFTCAP]
 
 shape() { # B Hq Hkv P S D [SOFTCAP]
     local ours theirs
-    ours=$(count klaverdomp_attention_2 "$@")
+    ours=$(count klaverdomp_attention_3 "$@")
     theirs=$(count reference_attention "$@")
     printf 'B%s Hq%s Hkv%s P%s S%s D%s%s: ' "${@:1:6}" "${7:+ softcap $7}"
     echo "$ours $theirs" | awk '{ printf "library %.2f M, plain C %.2f M, ratio %.2f", $1 / 1e6, $2 / 1e6, $1 / $2 }'
-    [ "$1 $5" != "1 1" ] || printf ', step entry %+d' $(($(count klaverdomp_step_2 "$@") - ours))
+    [ "$1 $5" != "1 1" ] || printf ', step entry %+d' $(($(count klaverdomp_step_3 "$@") - ours))
     echo
 }
 

@@ -2,6 +2,7 @@
 
     python3 tools/vectors.py vectors    crates/examples/proofs/Vectors.antt: random calls with their outcomes and scores
                                         under caps, as claims
+    python3 tools/vectors.py dots       crates/softmax/proofs/DotExamples.antt: dot products, as claims
     python3 tools/vectors.py examples   crates/entry_examples/stdout: the calls of entry_examples.py with their outcomes
     python3 tools/vectors.py refusals   crates/refusal_examples/stdout: its refused calls
 """
@@ -201,6 +202,70 @@ def refused_calls(rng):
                 yield f"refusal {number}, beside a fault of {later}", refused_call(rng, fault, number, later)
 
 
+# Dot products
+
+SIZES = 1, 2, 3, 4, 5, 6, 7, 8, 9, 13, 16, 18
+
+
+def added(terms, start=0.0):
+    """One sum, each step rounded."""
+    total = start
+    for term in terms:
+        total = f32(total + term)
+    return total
+
+
+def lanes(terms):
+    return [added(terms[lane::4]) for lane in range(4)]
+
+
+def joined(a, b, c, d):
+    return f32(f32(a + b) + f32(c + d))
+
+
+def from_first(terms):
+    return added(terms[1:], terms[0]) if terms else 0.0
+
+
+# rules for the sum of rounded products that are not the one asked for
+WRONG_RULES = {
+    "one sum": added,
+    "joined from the left": lambda terms: added(lanes(terms)),
+    "first and third lane joined": lambda terms: joined(*(lanes(terms)[lane] for lane in (0, 2, 1, 3))),
+    "quarters": lambda terms: joined(*(added(terms[len(terms) * n // 4:len(terms) * (n + 1) // 4]) for n in range(4))),
+    "lanes from their first product": lambda terms: joined(*(from_first(terms[lane::4]) for lane in range(4))),
+    "tail after the join": lambda terms: added(terms[len(terms) // 4 * 4:], joined(*lanes(terms[:len(terms) // 4 * 4]))),
+    "falling": lambda terms: joined(*(added(terms[lane::4][::-1]) for lane in range(4))),
+}
+
+
+def dot_product(query, key):
+    """The scaled score with a scale of 1, which is the dot product, as the reference gives it."""
+    r = Record(head_size=len(query), scale=1.0, score_mode=0)
+    _, made = call(r, Inputs(query=query, key=key, value=[1.0]), lent(output_lengths(r)))
+    return made.scores[0]
+
+
+def dot_products(rng):
+    """Rows with their dot products: of each size two with full significands, and of the smallest one with products of -0 alone.
+    Each wrong rule gives one of them other bits."""
+    made = [(n, [f32(rng.uniform(-3, 3)) for _ in range(2 * n)]) for n in SIZES for _ in range(2)]
+    made += [(n, [-0.0, -LEAST] * (n // 2) + [-0.0] * (n % 2) + [0.25] * n) for n in (1, 2, 4, 5)]
+    rows = [(row[:n], row[n:]) for n, row in made]
+    rows = [(query, key, dot_product(query, key)) for query, key in rows]
+    for name, rule in WRONG_RULES.items():
+        assert any(to_bits(rule([f32(q * k) for q, k in zip(query, key)])) != to_bits(dot) for query, key, dot in rows), name
+    return rows
+
+
+def wider_calls(rng):
+    """Every form, with head sizes from 4 to 9 and full significands."""
+    for form, head_size in product(("plain", "cached", "counted"), range(4, 10)):
+        r, inputs, outputs = tiny_call(rng, most=36, form=form, head_size=head_size, value_size=1, batch=1, query_heads=1, key_heads=1,
+                                       query_length=1, score_mode=rng.choice((0, 3)))
+        yield f"{form}, a wider head", (r, replace(inputs, query=[f32(rng.uniform(-3, 3)) for _ in inputs.query]), outputs)
+
+
 # Calls with a cap
 
 ABOVE_CAP = from_bits(0x47800001)
@@ -345,6 +410,25 @@ abbrev refused : Call → Inputs → Outputs → Answer → Claim
 refused c x y answer = outcome c x y (record { answer = answer; tensors = y })
 """
 
+DOT_HEADER = """-- Dot products of rows of 1 to 18 elements: the definition gives them the bits of a reference written from the rules. Floats are f32 bits.
+-- Made by `python3 tools/vectors.py dots`. Assumes nothing.
+use mathlib.Core.Path.{_≡_, refl}
+use mathlib.Core.List.{List, [], _∷_}
+use Prim.Native.Nat.{ℕ}
+use lib.Ieee.{Float, binary32, ofBits}
+use Rattle.softmax.specs.Lists.{dotRowOf}
+
+unfoldable floats : List ℕ → List Float
+unfolding ofBits
+floats [] = []
+floats (bits ∷ rest) = ofBits binary32 bits ∷ floats rest
+
+-- the dot product of two rows has these bits
+unfoldable pub Gives : (query key : List ℕ) → ℕ → Type 0
+unfolding floats
+Gives query key bits = dotRowOf (floats query) (floats key) ≡ ofBits binary32 bits
+"""
+
 TABLES = """
 -- under a cap, by its bits, the second score becomes the third
 unfoldable under : (cap score capped : ℕ) → Claim
@@ -426,10 +510,20 @@ def print_proof(proof, table, claims, *unfolded):
     print(f"{proof} = {'(refl, ' * len(claims)}tt{')' * len(claims)}")
 
 
+def dots(seed=243):
+    rows = dot_products(random.Random(seed))
+    print(f"{DOT_HEADER}\npub record DotExamplesHold : Type 0 where")
+    for n, (query, key, dot) in enumerate(rows, 1):
+        print(f"  pub dot{n} : Gives {list_text(map(bits_text, query))} {list_text(map(bits_text, key))} {bits_text(dot)}".replace(NO_BREAK, " "))
+    print("\npub dot-examples : DotExamplesHold\nunfolding Gives dotRowOf ofBits")
+    print("dot-examples = record {\n" + "".join(f"  dot{n} = refl;\n" for n in range(1, len(rows) + 1)) + "}")
+
+
 def vectors(seed=242):
     rng = random.Random(seed)
     calls = [*accepted_calls(rng), *refused_calls(rng)]
     capped = [*capped_rows(), *capped_calls(rng), *refused_caps(rng)]
+    wider = list(wider_calls(rng))
     scores = list(capped_scores())
     print(HEADER)
     print_calls("vectorTable", calls)
@@ -440,10 +534,13 @@ def vectors(seed=242):
     print()
     print_calls("cappedTable", capped)
     print_proof("cappedVectors", "cappedTable", capped, "attentionOf")
+    print()
+    print_calls("widerTable", wider)
+    print_proof("widerVectors", "widerTable", wider, "attentionOf")
 
 
 if __name__ == "__main__":
-    commands = {"vectors": vectors, "examples": entry_examples.print_lines, "refusals": entry_examples.print_refusals}
+    commands = {"vectors": vectors, "dots": dots, "examples": entry_examples.print_lines, "refusals": entry_examples.print_refusals}
     if len(sys.argv) != 2 or sys.argv[1] not in commands:
         sys.exit(__doc__)
     commands[sys.argv[1]]()

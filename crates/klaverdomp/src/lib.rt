@@ -15,7 +15,7 @@ use exponential::PowerEntry;
 
 // Attention. The result is 0 for done and else the number of the refusal; the four numbers behind it are always written.
 #[no_mangle]
-pub extern "C" fn klaverdomp_attention_2<'a>(
+pub extern "C" fn klaverdomp_attention_3<'a>(
     numbers: &[u64],
     scale: f32,
     softcap: f32,
@@ -66,7 +66,7 @@ pub extern "C" fn klaverdomp_attention_2<'a>(
 
 // A step: attention for the records of the step profile, which is lent no masks, live counts and scores. Any other record is refusal 10.
 #[no_mangle]
-pub extern "C" fn klaverdomp_step_2<'a>(
+pub extern "C" fn klaverdomp_step_3<'a>(
     numbers: &[u64],
     scale: f32,
     softcap: f32,

@@ -1,189 +1,117 @@
-// The scores of a row's keys, eight keys a pass, each its own sum in the order of step 1.
+// The scores of a row's keys: the lanes of four keys a pass, of up to sixteen keys before they are joined, each lane its own sum in the order of step 1.
 ghost use mathlib.Core.Path.{_≡_};
-ghost use Prim.Native.Nat.{ℕ, _+_, _*_, _≤_, _<_};
+ghost use mathlib.Core.List.{_++_};
+ghost use Prim.Native.Nat.{ℕ, _+_, _*_, _/_, _%_, _≤_, _<_};
 ghost use lib.ListN.{length};
-ghost use lib.Ieee.{binary32, mul};
 ghost use Rattle.tensor_laws.specs.Layout.{tabulate};
-ghost use Rattle.softmax.specs.Lists.{elementOf, scoreRowsOf};
-ghost use Rattle.scores.specs.Sums.{SumsTo, Added};
+ghost use Rattle.softmax.specs.Lists.{scoreRowsOf};
+ghost use Rattle.scores.specs.Sums.{laneAt, joinedAt, blockOf};
 
-// Eight sums, of eight keys.
-struct Sums {
-    a: f32,
-    b: f32,
-    c: f32,
-    d: f32,
-    e: f32,
-    f: f32,
-    g: f32,
-    h: f32,
+// Four rows of four elements, one after the other.
+fn store_four(a: &[f32], b: &[f32], c: &[f32], d: &[f32], out: &mut [f32])
+    requires { ⌜ (length (now a) ≡ 4) × (length (now b) ≡ 4) × (length (now c) ≡ 4) × (length (now d) ≡ 4) ⌝ }
+    requires { ⌜ length (now out) ≡ 16 ⌝ }
+    ensures { λ _. ⌜ now (out .exit) ≡ now (a .entry) ++ (now (b .entry) ++ (now (c .entry) ++ now (d .entry))) ⌝ }
+{
+    softmax::copy_row(a, &mut out[0..4]);
+    softmax::copy_row(b, &mut out[4..8]);
+    softmax::copy_row(c, &mut out[8..12]);
+    softmax::copy_row(d, &mut out[12..16]);
 }
 
-// Sixteen products, of the row's elements from i on with those of the keys from `at` on.
-fn products(q: &[f32], keys: &[f32], i: usize, at: usize, out: &mut [f32])
-    requires { ⌜ (length (now out) ≡ 16) × (i + 16 ≤ length (now q)) × (at + 16 ≤ length (now keys)) ⌝ }
-    ensures { λ _. ⌜ now (out .exit) ≡ tabulate 16 (λ c. mul binary32 (elementOf (now (q .entry)) (i + c)) (elementOf (now (keys .entry)) (at + c))) ⌝ }
+// The lanes of four keys over as many fours of the row's elements as are asked for; the row of key j starts at j * stride. Four keys hide each other's latency.
+fn sum_four(q: &[f32], keys: &[f32], stride: usize, fours: usize, lanes: &mut [f32])
+    requires { ⌜ length (now lanes) ≡ 16 ⌝ }
+    requires { ⌜ fours * 4 ≤ length (now q) ⌝ }
+    requires { ⌜ 3 * stride + length (now q) ≤ length (now keys) ⌝ }
+    ensures { λ _. ⌜ now (lanes .exit) ≡ tabulate 16 (laneAt (now (q .entry)) (now (keys .entry)) stride (fours * 4)) ⌝ }
 {
-    let mut c = 0;
-    while c < 16 {
-        out[c] = q[i + c] * keys[at + c];
-        c += 1;
-    }
-}
-
-// The sums with sixteen products more, each with those of its own key in rising order.
-fn add_products(
-    s: Sums,
-    pa: &[f32; 16],
-    pb: &[f32; 16],
-    pc: &[f32; 16],
-    pd: &[f32; 16],
-    pe: &[f32; 16],
-    pf: &[f32; 16],
-    pg: &[f32; 16],
-    ph: &[f32; 16],
-) -> Sums
-    ensures { λ r. ⌜ Added s r (now (pa .entry)) (now (pb .entry)) (now (pc .entry)) (now (pd .entry)) (now (pe .entry)) (now (pf .entry)) (now (pg .entry)) (now (ph .entry)) ⌝ }
-{
-    let mut a = s.a;
-    let mut b = s.b;
-    let mut c = s.c;
-    let mut d = s.d;
-    let mut e = s.e;
-    let mut f = s.f;
-    let mut g = s.g;
-    let mut h = s.h;
-    let mut i = 0;
-    while i < 16 {
-        a = a + pa[i];
-        b = b + pb[i];
-        c = c + pc[i];
-        d = d + pd[i];
-        e = e + pe[i];
-        f = f + pf[i];
-        g = g + pg[i];
-        h = h + ph[i];
-        i += 1;
-    }
-    Sums {
-        a,
-        b,
-        c,
-        d,
-        e,
-        f,
-        g,
-        h,
-    }
-}
-
-// The sums over the first i elements with the sixteen behind them added: the products are packed, and the eight sums hide each other's latency.
-fn add_block(s: Sums, q: &[f32], keys: &[f32], stride: usize, i: usize) -> Sums
-    requires { ⌜ SumsTo (now q) (now keys) stride i s ⌝ }
-    requires { ⌜ i + 16 ≤ length (now q) ⌝ }
-    requires { ⌜ 7 * stride + length (now q) ≤ length (now keys) ⌝ }
-    ensures { λ r. ⌜ SumsTo (now (q .entry)) (now (keys .entry)) stride (i + 16) r ⌝ }
-{
-    let mut pa = [0.0; 16];
-    let mut pb = [0.0; 16];
-    let mut pc = [0.0; 16];
-    let mut pd = [0.0; 16];
-    let mut pe = [0.0; 16];
-    let mut pf = [0.0; 16];
-    let mut pg = [0.0; 16];
-    let mut ph = [0.0; 16];
-    products(q, keys, i, i, &mut pa);
-    products(q, keys, i, stride + i, &mut pb);
-    products(q, keys, i, 2 * stride + i, &mut pc);
-    products(q, keys, i, 3 * stride + i, &mut pd);
-    products(q, keys, i, 4 * stride + i, &mut pe);
-    products(q, keys, i, 5 * stride + i, &mut pf);
-    products(q, keys, i, 6 * stride + i, &mut pg);
-    products(q, keys, i, 7 * stride + i, &mut ph);
-    add_products(s, &pa, &pb, &pc, &pd, &pe, &pf, &pg, &ph)
-}
-
-// The sums over as many sixteens of the row's elements as are asked for.
-fn sum_blocks(q: &[f32], keys: &[f32], stride: usize, blocks: usize) -> Sums
-    requires { ⌜ blocks * 16 ≤ length (now q) ⌝ }
-    requires { ⌜ 7 * stride + length (now q) ≤ length (now keys) ⌝ }
-    ensures { λ r. ⌜ SumsTo (now (q .entry)) (now (keys .entry)) stride (blocks * 16) r ⌝ }
-{
-    let mut s = Sums {
-        a: 0.0,
-        b: 0.0,
-        c: 0.0,
-        d: 0.0,
-        e: 0.0,
-        f: 0.0,
-        g: 0.0,
-        h: 0.0,
-    };
+    let mut a = [0.0; 4];
+    let mut b = [0.0; 4];
+    let mut c = [0.0; 4];
+    let mut d = [0.0; 4];
     let mut m = 0;
-    while m < blocks {
-        s = add_block(s, q, keys, stride, m * 16);
+    while m < fours {
+        let i = m * 4;
+        softmax::add_lanes(&mut a, q, keys, i, 4);
+        softmax::add_lanes(&mut b, q, &keys[stride..], i, 4);
+        softmax::add_lanes(&mut c, q, &keys[2 * stride..], i, 4);
+        softmax::add_lanes(&mut d, q, &keys[3 * stride..], i, 4);
         m += 1;
     }
-    s
+    store_four(&a, &b, &c, &d, lanes);
 }
 
-// The sums over the whole row, from those over its first elements.
-fn sum_rest(s: Sums, q: &[f32], keys: &[f32], stride: usize, from: usize) -> Sums
-    requires { ⌜ SumsTo (now q) (now keys) stride from s ⌝ }
-    requires { ⌜ from ≤ length (now q) ⌝ }
-    requires { ⌜ 7 * stride + length (now q) ≤ length (now keys) ⌝ }
-    ensures { λ r. ⌜ SumsTo (now (q .entry)) (now (keys .entry)) stride (length (now (q .entry))) r ⌝ }
+// The lanes of keys over the row's fours, four keys a pass.
+fn sum_fours(q: &[f32], keys: &[f32], stride: usize, lanes: &mut [f32])
+    requires { ⌜ length (now lanes) % 16 ≡ 0 ⌝ }
+    requires { ⌜ ((j : ℕ) → j * 4 < length (now lanes) → j * stride + length (now q) ≤ length (now keys)) ⌝ }
+    ensures { λ _. ⌜ now (lanes .exit) ≡ tabulate (length (now (lanes .entry))) (laneAt (now (q .entry)) (now (keys .entry)) stride (length (now (q .entry)) / 4 * 4)) ⌝ }
 {
-    let mut a = s.a;
-    let mut b = s.b;
-    let mut c = s.c;
-    let mut d = s.d;
-    let mut e = s.e;
-    let mut f = s.f;
-    let mut g = s.g;
-    let mut h = s.h;
-    let n = q.len();
-    let mut i = from;
-    while i < n {
-        a = a + q[i] * keys[i];
-        b = b + q[i] * keys[stride + i];
-        c = c + q[i] * keys[2 * stride + i];
-        d = d + q[i] * keys[3 * stride + i];
-        e = e + q[i] * keys[4 * stride + i];
-        f = f + q[i] * keys[5 * stride + i];
-        g = g + q[i] * keys[6 * stride + i];
-        h = h + q[i] * keys[7 * stride + i];
-        i += 1;
-    }
-    Sums {
-        a,
-        b,
-        c,
-        d,
-        e,
-        f,
-        g,
-        h,
+    let fours = q.len() / 4;
+    let passes = lanes.len() / 16;
+    let mut p = 0;
+    while p < passes {
+        let at = p * 4 * stride;
+        let a = p * 16;
+        let e = a + 16;
+        sum_four(q, &keys[at..], stride, fours, &mut lanes[a..e]);
+        p += 1;
     }
 }
 
-// The scores of eight keys, each its own sum from +0; the row of key j starts at j * stride.
-fn score_eight(q: &[f32], keys: &[f32], stride: usize, scale: f32, out: &mut [f32])
-    requires { ⌜ length (now out) ≡ 8 ⌝ }
-    requires { ⌜ 7 * stride + length (now q) ≤ length (now keys) ⌝ }
-    ensures { λ _. ⌜ now (out .exit) ≡ scoreRowsOf (now (q .entry)) (now (keys .entry)) stride scale 8 ⌝ }
+// The lanes of keys over the whole row, from those over its fours: what a head size leaves beyond them.
+fn sum_rest(q: &[f32], keys: &[f32], stride: usize, lanes: &mut [f32])
+    requires { ⌜ now lanes ≡ tabulate (length (now lanes)) (laneAt (now q) (now keys) stride (length (now q) / 4 * 4)) ⌝ }
+    requires { ⌜ length (now lanes) % 4 ≡ 0 ⌝ }
+    requires { ⌜ ((j : ℕ) → j * 4 < length (now lanes) → j * stride + length (now q) ≤ length (now keys)) ⌝ }
+    ensures { λ _. ⌜ now (lanes .exit) ≡ tabulate (length (now (lanes .entry))) (laneAt (now (q .entry)) (now (keys .entry)) stride (length (now (q .entry)))) ⌝ }
 {
-    let blocks = q.len() / 16;
-    let first = sum_blocks(q, keys, stride, blocks);
-    let s = sum_rest(first, q, keys, stride, blocks * 16);
-    out[0] = s.a * scale;
-    out[1] = s.b * scale;
-    out[2] = s.c * scale;
-    out[3] = s.d * scale;
-    out[4] = s.e * scale;
-    out[5] = s.f * scale;
-    out[6] = s.g * scale;
-    out[7] = s.h * scale;
+    let from = q.len() / 4 * 4;
+    let count = q.len() - from;
+    if count == 0 {
+        return;
+    }
+    let n = lanes.len() / 4;
+    let mut j = 0;
+    while j < n {
+        let at = j * stride;
+        let a = j * 4;
+        let e = a + 4;
+        softmax::add_lanes(&mut lanes[a..e], q, &keys[at..], from, count);
+        j += 1;
+    }
+}
+
+// The scores of as many keys as `out` has elements, from their lanes.
+fn join_lanes(lanes: &[f32], scale: f32, out: &mut [f32])
+    requires { ⌜ length (now out) * 4 ≤ length (now lanes) ⌝ }
+    ensures { λ _. ⌜ now (out .exit) ≡ tabulate (length (now (out .entry))) (joinedAt (now (lanes .entry)) scale) ⌝ }
+{
+    let mut j = 0;
+    while j < out.len() {
+        let i = j * 4;
+        out[j] = ((lanes[i] + lanes[i + 1]) + (lanes[i + 2] + lanes[i + 3])) * scale;
+        j += 1;
+    }
+}
+
+// The scores of as many keys as `out` has elements, a multiple of four; `lanes` has room for theirs.
+fn score_block(
+    q: &[f32],
+    keys: &[f32],
+    stride: usize,
+    scale: f32,
+    lanes: &mut [f32],
+    out: &mut [f32],
+)
+    requires { ⌜ (length (now out) % 4 ≡ 0) × (length (now lanes) ≡ length (now out) * 4) ⌝ }
+    requires { ⌜ ((j : ℕ) → j < length (now out) → j * stride + length (now q) ≤ length (now keys)) ⌝ }
+    ensures { λ _. ⌜ now (out .exit) ≡ scoreRowsOf (now (q .entry)) (now (keys .entry)) stride scale (length (now (out .entry))) ⌝ }
+{
+    sum_fours(q, keys, stride, lanes);
+    sum_rest(q, keys, stride, lanes);
+    join_lanes(lanes, scale, out);
 }
 
 // The scores of as many keys as `out` has elements, one after the other; the row of key j starts at j * stride.
@@ -199,17 +127,37 @@ fn score_few(q: &[f32], keys: &[f32], stride: usize, scale: f32, out: &mut [f32]
     }
 }
 
-// The scores of as many keys as `out` has elements, eight at a time; the row of key j starts at j * stride.
+// How many keys the next block has, of those that are left: as many fours as there are, sixteen at most.
+fn block_size(left: usize) -> usize
+    ensures { λ r. ⌜ r ≡ blockOf left ⌝ }
+{
+    if left < 16 {
+        return left / 4 * 4;
+    }
+    16
+}
+
+// The scores of as many keys as `out` has elements, up to sixteen at a time; the row of key j starts at j * stride.
 pub fn score_rows(q: &[f32], keys: &[f32], stride: usize, scale: f32, out: &mut [f32])
     requires { ⌜ ((j : ℕ) → j < length (now out) → j * stride + length (now q) ≤ length (now keys)) ⌝ }
     ensures { λ _. ⌜ now (out .exit) ≡ scoreRowsOf (now (q .entry)) (now (keys .entry)) stride scale (length (now (out .entry))) ⌝ }
 {
+    let mut lanes = [0.0; 64];
     let n = out.len();
     let mut j = 0;
-    while 8 <= n - j {
+    while 4 <= n - j {
         let at = j * stride;
-        let e = j + 8;
-        score_eight(q, &keys[at..], stride, scale, &mut out[j..e]);
+        let m = block_size(n - j);
+        let e = j + m;
+        let w = m * 4;
+        score_block(
+            q,
+            &keys[at..],
+            stride,
+            scale,
+            &mut lanes[0..w],
+            &mut out[j..e],
+        );
         j = e;
     }
     if j < n {

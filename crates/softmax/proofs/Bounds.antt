@@ -1,7 +1,7 @@
 -- How large dot products and scores become: by the bounds of the elements and of the scale alone, since rounding keeps the order and the bounds are f32 values. Assumes nothing.
 use mathlib.Core.Path.{_≡_, refl, sym, ap, _∙_, subst}
-use Prim.Native.Nat.{ℕ, zero, suc, _+_, _*_, _^_, _≤_, _<_, zero-le}
-use native.Mathlib.Nat.{le-refl, zero-mul, suc-mul, mul-one, one-mul, mul-le-mul-right}
+use Prim.Native.Nat.{ℕ, zero, suc, _+_, _-_, _*_, _^_, _≤_, _<_, zero-le}
+use native.Mathlib.Nat.{le-refl, zero-add, zero-mul, suc-mul, mul-one, one-mul, mul-le-mul-right}
 use native.Mathlib.Omega.{arith}
 use mathlib.Core.Bool.{Bool, true, false, _&&_}
 use lib.IntN.{pos}
@@ -20,7 +20,7 @@ use Rattle.float_laws.proofs.Exact.{scaled-exact}
 use Rattle.float_laws.proofs.Fraction.{add-at}
 use Rattle.float_laws.proofs.Rounded.{round-zero}
 use Rattle.exponential.specs.ExpNeg.{plusZero}
-use Rattle.softmax.specs.Row.{dotOf, scoreOf, addWhere, sumOf}
+use Rattle.softmax.specs.Row.{inLane, laneOf, dotOf, scoreOf, addWhere, sumOf}
 
 -- x is a number of magnitude at most b
 abbrev pub bounded : Float → Float → Bool
@@ -97,27 +97,109 @@ one-more : (n i : ℕ) (x y : Float) → n < 2 ^ 24 → i ≤ 104 → T (bounded
 one-more n i x y h k a b =
     subst (λ (z : Float). T (bounded z (add binary32 x y))) (whole-next n i h k) (add-bounded (round binary32 false (n * 2 ^ i) 1) (fin false 1 (pos i)) x y (whole-plus n i h k) tt a b)
 
+-- ---- sums
+
+-- how many of the first n positions are seen
+abbrev oneMoreWhere : Bool → ℕ → ℕ
+oneMoreWhere true n = suc n
+oneMoreWhere false n = n
+
+unfoldable seenOf : ℕ → (ℕ → Bool) → ℕ
+seenOf zero sees = 0
+seenOf (suc n) sees = oneMoreWhere (sees n) (seenOf n sees)
+
+one-more-where : (b : Bool) (n : ℕ) → (n ≤ oneMoreWhere b n) × (oneMoreWhere b n ≤ suc n)
+one-more-where true n = (omega arith, le-refl (suc n))
+one-more-where false n = (le-refl n, omega arith)
+
+-- no more than n, and no fewer where there are more positions
+seen-at-most : (n : ℕ) (sees : ℕ → Bool) → seenOf n sees ≤ n
+unfolding seenOf
+seen-at-most zero sees = le-refl 0
+seen-at-most (suc n) sees = omega (arith, one-more-where (sees n) (seenOf n sees) .1, seen-at-most n sees)
+
+seen-rises : (n more : ℕ) (sees : ℕ → Bool) → seenOf n sees ≤ seenOf (more + n) sees
+unfolding seenOf
+seen-rises n zero sees = omega (arith, ap (λ (m : ℕ). seenOf m sees) (zero-add n))
+seen-rises n (suc more) sees =
+    let e : suc more + n ≡ suc (more + n) = omega arith in
+    omega (arith, seen-rises n more sees, one-more-where (sees (more + n)) (seenOf (more + n) sees) .0, ap (λ (m : ℕ). seenOf m sees) e)
+
+-- the sum of the seen positions' terms, each within 2 ^ i, is within as many times 2 ^ i
+sum-counted : (n i : ℕ) (sees : ℕ → Bool) (term : ℕ → Float) → n ≤ 2 ^ 24 → i ≤ 104 → ((j : ℕ) → j < n → sees j ≡ true → T (bounded (fin false 1 (pos i)) (term j))) → T (bounded (round binary32 false (seenOf n sees * 2 ^ i) 1) (sumOf n sees term))
+unfolding sumOf seenOf
+sum-counted zero i sees term l k h = whole-none i
+sum-counted (suc n) i sees term l k h = go (sees n) refl (sum-counted n i sees term (omega arith) k (λ j a. h j (omega arith)))
+  where
+    go : (b : Bool) → sees n ≡ b → T (bounded (round binary32 false (seenOf n sees * 2 ^ i) 1) (sumOf n sees term)) → T (bounded (round binary32 false (oneMoreWhere b (seenOf n sees) * 2 ^ i) 1) (addWhere b (sumOf n sees term) (term n)))
+    go true e r = one-more (seenOf n sees) i (sumOf n sees term) (term n) (omega (arith, seen-at-most n sees)) k r (h n (le-refl (suc n)) e)
+    go false e r = r
+
+-- the sum of n positions' terms, each within 2 ^ i, is within n * 2 ^ i
+pub sum-bounded : (n i : ℕ) (sees : ℕ → Bool) (term : ℕ → Float) → n ≤ 2 ^ 24 → i ≤ 104 → ((j : ℕ) → j < n → sees j ≡ true → T (bounded (fin false 1 (pos i)) (term j))) → T (bounded (round binary32 false (n * 2 ^ i) 1) (sumOf n sees term))
+sum-bounded n i sees term l k h =
+    bounded-widens (round binary32 false (seenOf n sees * 2 ^ i) 1) (round binary32 false (n * 2 ^ i) 1) (sumOf n sees term) (whole-mono (seenOf n sees) n i (seen-at-most n sees)) (sum-counted n i sees term l k h)
+
 -- ---- dot products and scores
 
 element-square : mul binary32 elementBound elementBound ≡ fin false 1 (pos 32)
 unfolding mul
 element-square = refl
 
--- the dot product of n elements within 65,536 is within n * 2 ^ 32
-pub dot-bounded : (n : ℕ) (q k : ℕ → Float) → n ≤ 256 → ((c : ℕ) → c < n → T (bounded elementBound (q c))) → ((c : ℕ) → c < n → T (bounded elementBound (k c))) → T (bounded (round binary32 false (n * 2 ^ 32) 1) (dotOf n q k))
-unfolding dotOf
-dot-bounded zero q k l h g = whole-none 32
-dot-bounded (suc n) q k l h g =
-    one-more n 32 (dotOf n q k) (mul binary32 (q n) (k n)) (omega arith) (lit≤ tt) (dot-bounded n q k (omega arith) (λ c a. h c (omega arith)) (λ c a. g c (omega arith)))
-    (subst (λ (b : Float). T (bounded b (mul binary32 (q n) (k n)))) element-square (mul-bounded elementBound elementBound (q n) (k n) tt tt (h n (le-refl (suc n))) (g n (le-refl (suc n)))))
+-- 64 * 2 ^ 32, the bound of a lane, twice as much, and four times
+abbrev pub laneBound : Float
+laneBound = fin false 1 (pos 38)
 
--- 256 * 2 ^ 32, and its product with the bound of a scale
-abbrev dotBound : Float
+abbrev pairBound : Float
+pairBound = fin false 1 (pos 39)
+
+abbrev pub dotBound : Float
 dotBound = fin false 1 (pos 40)
 
-dot-bound : round binary32 false (256 * 2 ^ 32) 1 ≡ dotBound
+lane-bound : round binary32 false (64 * 2 ^ 32) 1 ≡ laneBound
 unfolding round
+lane-bound = refl
+
+pair-bound : add binary32 laneBound laneBound ≡ pairBound
+unfolding add
+pair-bound = refl
+
+dot-bound : add binary32 pairBound pairBound ≡ dotBound
+unfolding add
 dot-bound = refl
+
+-- a lane takes 64 of 256 elements
+lane-takes : (l : ℕ) → l < 4 → seenOf 256 (inLane l) ≡ 64
+unfolding seenOf
+lane-takes zero h = refl
+lane-takes (suc zero) h = refl
+lane-takes (suc (suc zero)) h = refl
+lane-takes (suc (suc (suc zero))) h = refl
+lane-takes (suc (suc (suc (suc l)))) h = absurd (omega arith)
+
+-- a lane of at most 256 elements within 65,536 is within 64 * 2 ^ 32
+pub lane-bounded : (l n : ℕ) (q k : ℕ → Float) → l < 4 → n ≤ 256 → ((c : ℕ) → c < n → T (bounded elementBound (q c))) → ((c : ℕ) → c < n → T (bounded elementBound (k c))) → T (bounded laneBound (laneOf l n q k))
+unfolding laneOf
+lane-bounded l n q k few small h g =
+    let term : ℕ → Float = λ c. mul binary32 (q c) (k c) in
+    let some = seenOf n (inLane l) in
+    let e : 256 - n + n ≡ 256 = omega arith in
+    let at-most : some ≤ 64 = omega (arith, seen-rises n (256 - n) (inLane l), ap (λ (m : ℕ). seenOf m (inLane l)) e, lane-takes l few) in
+    subst (λ (b : Float). T (bounded b (laneOf l n q k))) lane-bound
+    (bounded-widens (round binary32 false (some * 2 ^ 32) 1) (round binary32 false (64 * 2 ^ 32) 1) (laneOf l n q k) (whole-mono some 64 32 at-most)
+    (sum-counted n 32 (inLane l) term (omega arith) (lit≤ tt) (λ c a t. subst (λ (b : Float). T (bounded b (term c))) element-square (mul-bounded elementBound elementBound (q c) (k c) tt tt (h c a) (g c a)))))
+
+-- a dot product of at most 256 elements within 65,536 is within 2 ^ 40
+pub dot-bounded : (n : ℕ) (q k : ℕ → Float) → n ≤ 256 → ((c : ℕ) → c < n → T (bounded elementBound (q c))) → ((c : ℕ) → c < n → T (bounded elementBound (k c))) → T (bounded dotBound (dotOf n q k))
+unfolding dotOf
+dot-bounded n q k small h g =
+    subst (λ (b : Float). T (bounded b (dotOf n q k))) dot-bound (add-bounded pairBound pairBound (pairOf 0 1) (pairOf 2 3) tt tt (pair 0 1 (lit< tt) (lit< tt)) (pair 2 3 (lit< tt) (lit< tt)))
+  where
+    pairOf : ℕ → ℕ → Float
+    pairOf l m = add binary32 (laneOf l n q k) (laneOf m n q k)
+
+    pair : (l m : ℕ) → l < 4 → m < 4 → T (bounded pairBound (pairOf l m))
+    pair l m a b = subst (λ (z : Float). T (bounded z (pairOf l m))) pair-bound (add-bounded laneBound laneBound (laneOf l n q k) (laneOf m n q k) tt tt (lane-bounded l n q k a small h g) (lane-bounded m n q k b small h g))
 
 scaled-bound : mul binary32 dotBound scaleBound ≡ scoreBound
 unfolding mul
@@ -128,8 +210,7 @@ pub score-bounded : (n : ℕ) (q k : ℕ → Float) (scale : Float) → n ≤ 25
 unfolding scoreOf
 score-bounded n q k scale l h g a b =
     let d = dotOf n q k in
-    let e : T (bounded dotBound d) = subst (λ (z : Float). T (bounded z d)) dot-bound (bounded-widens (round binary32 false (n * 2 ^ 32) 1) (round binary32 false (256 * 2 ^ 32) 1) d (whole-mono n 256 32 l) (dot-bounded n q k l h g)) in
-    subst (λ (z : Float). T (bounded z (mul binary32 d scale))) scaled-bound (mul-bounded dotBound scaleBound d scale tt tt e (bounded-of-positive scaleBound scale (unfold le neg in tt) a b))
+    subst (λ (z : Float). T (bounded z (mul binary32 d scale))) scaled-bound (mul-bounded dotBound scaleBound d scale tt tt (dot-bounded n q k l h g) (bounded-of-positive scaleBound scale (unfold le neg in tt) a b))
 
 finite-at-most : T (finite (add binary32 scoreBound (largestFinite binary32)))
 unfolding add
@@ -141,15 +222,3 @@ masked-score-finite s cell h k p =
     let b = largestFinite binary32 in
     let r = finite-range binary32 cell k p in
     bounded-finite (add binary32 scoreBound b) (add binary32 s cell) finite-at-most (add-bounded scoreBound b s cell tt tt h (and-i (le (neg b) cell) (le cell b) (r .0) (r .1)))
-
--- ---- sums
-
--- the sum of n positions' terms, each within 2 ^ i, is within n * 2 ^ i
-pub sum-bounded : (n i : ℕ) (sees : ℕ → Bool) (term : ℕ → Float) → n ≤ 2 ^ 24 → i ≤ 104 → ((j : ℕ) → j < n → sees j ≡ true → T (bounded (fin false 1 (pos i)) (term j))) → T (bounded (round binary32 false (n * 2 ^ i) 1) (sumOf n sees term))
-unfolding sumOf
-sum-bounded zero i sees term l k h = whole-none i
-sum-bounded (suc n) i sees term l k h = go (sees n) refl (sum-bounded n i sees term (omega arith) k (λ j a. h j (omega arith)))
-  where
-    go : (b : Bool) → sees n ≡ b → T (bounded (round binary32 false (n * 2 ^ i) 1) (sumOf n sees term)) → T (bounded (round binary32 false (suc n * 2 ^ i) 1) (addWhere b (sumOf n sees term) (term n)))
-    go true e r = one-more n i (sumOf n sees term) (term n) l k r (h n (le-refl (suc n)) e)
-    go false e r = bounded-widens (round binary32 false (n * 2 ^ i) 1) (round binary32 false (suc n * 2 ^ i) 1) (sumOf n sees term) (whole-mono n (suc n) i (omega arith)) r

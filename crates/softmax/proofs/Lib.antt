@@ -1,4 +1,5 @@
 pub mod Structure
+pub mod Lanes
 pub mod Bounds
 pub mod Unit
 pub mod Rows
@@ -7,3 +8,4 @@ pub mod Softmax
 pub mod Positions
 pub mod Cap
 pub mod CapExamples
+pub mod DotExamples

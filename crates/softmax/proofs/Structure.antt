@@ -7,7 +7,7 @@ use mathlib.Core.Bool.{Bool, true, false, not, true≢false}
 use lib.Dec.{T, leb, leb→le, nleb→lt}
 use lib.Ieee.{Float, binary32, add, mul}
 use Rattle.exponential.specs.ExpNeg.{plusZero}
-use Rattle.softmax.specs.Row.{dotOf, scoreOf, Largest, noneSeen, largest, largestWith, largestOf, isNone, fullyMaskedOf, termOf, addWhere, sumOf, weightWhere, weightOf, outputOf, rowOutputOf}
+use Rattle.softmax.specs.Row.{inLane, laneOf, dotOf, scoreOf, Largest, noneSeen, largest, largestWith, largestOf, isNone, fullyMaskedOf, termOf, addWhere, sumOf, weightWhere, weightOf, outputOf, rowOutputOf}
 use Rattle.softmax.specs.Lists.{accumulatedOf}
 
 -- ---- one position
@@ -132,14 +132,18 @@ cut-output m n sees score value h hides =
     ∙ agree-sum m sees sees (λ j. mul binary32 (weightOf n sees score j) (value j)) (λ j. mul binary32 (weightOf m sees score j) (value j)) (λ j l. refl)
     (λ j l s. product-agrees (weightOf n sees score j) (weightOf m sees score j) (value j) (value j) (cut-weight m n sees score j h hides) refl)
 
+-- rows with equal elements have the same lanes
+agree-lane : (l n : ℕ) (q q' k k' : ℕ → Float) → ((c : ℕ) → c < n → q c ≡ q' c) → ((c : ℕ) → c < n → k c ≡ k' c) → laneOf l n q k ≡ laneOf l n q' k'
+unfolding laneOf
+agree-lane l n q q' k k' a b =
+    agree-sum n (inLane l) (inLane l) (λ c. mul binary32 (q c) (k c)) (λ c. mul binary32 (q' c) (k' c)) (λ c h. refl) (λ c h t. product-agrees (q c) (q' c) (k c) (k' c) (a c h) (b c h))
+
 -- rows with equal elements have the same dot product
 pub agree-dot : (n : ℕ) (q q' k k' : ℕ → Float) → ((c : ℕ) → c < n → q c ≡ q' c) → ((c : ℕ) → c < n → k c ≡ k' c) → dotOf n q k ≡ dotOf n q' k'
 unfolding dotOf
-agree-dot zero q q' k k' a b = refl
-agree-dot (suc n) q q' k k' a b =
-    sum-agrees true true (dotOf n q k) (dotOf n q' k') (mul binary32 (q n) (k n)) (mul binary32 (q' n) (k' n)) refl
-    (agree-dot n q q' k k' (λ c l. a c (omega arith)) (λ c l. b c (omega arith)))
-    (λ e. product-agrees (q n) (q' n) (k n) (k' n) (a n (le-refl (suc n))) (b n (le-refl (suc n))))
+agree-dot n q q' k k' a b =
+    let same : (l : ℕ) → laneOf l n q k ≡ laneOf l n q' k' = λ l. agree-lane l n q q' k k' a b in
+    λ i. add binary32 (add binary32 (same 0 i) (same 1 i)) (add binary32 (same 2 i) (same 3 i))
 
 -- rows with equal elements have the same score
 pub agree-score : (n : ℕ) (q q' k k' : ℕ → Float) (scale : Float) → ((c : ℕ) → c < n → q c ≡ q' c) → ((c : ℕ) → c < n → k c ≡ k' c) → scoreOf n q k scale ≡ scoreOf n q' k' scale

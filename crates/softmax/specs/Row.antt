@@ -1,17 +1,39 @@
 -- One row of attention over n positions, as functions of the position: which are seen (admitted), the score of each after the mask, and the value of each in one column.
 -- Steps 1 and 3 to 5 of the rounding order; each operation is one f32 operation, and positions rise. Definitions only.
-use Prim.Native.Nat.{ℕ, zero, suc}
+use Prim.Native.Nat.{ℕ, zero, suc, _%_}
 use mathlib.Core.Bool.{Bool, true, false}
+use lib.Dec.{eqb}
 use lib.Ieee.{Float, binary32, add, sub, mul, div, lt}
 use Rattle.exponential.specs.ExpNeg.{plusZero, expNegOf, valueOrZero}
 
+-- ---- sums
+
+-- x with a seen position's term added, and x itself at a position that is not seen
+abbrev pub addWhere : Bool → Float → Float → Float
+addWhere true x term = add binary32 x term
+addWhere false x term = x
+
+-- the sum of the seen positions' terms, from +0
+unfoldable pub sumOf : ℕ → (ℕ → Bool) → (ℕ → Float) → Float
+unfolding add
+sumOf zero sees term = plusZero
+sumOf (suc n) sees term = addWhere (sees n) (sumOf n sees term) (term n)
+
 -- ---- step 1
 
--- the dot product of two rows of n elements: it starts at +0, and adds the product of element k for k rising
+-- lane l takes the indexes whose remainder by 4 is l
+abbrev pub inLane : ℕ → ℕ → Bool
+inLane l c = eqb (c % 4) l
+
+-- lane l of two rows of n elements: from +0, the products of the elements that it takes, their index rising
+unfoldable pub laneOf : ℕ → ℕ → (ℕ → Float) → (ℕ → Float) → Float
+unfolding mul sumOf
+laneOf l n q k = sumOf n (inLane l) (λ c. mul binary32 (q c) (k c))
+
+-- the dot product of two rows of n elements: (lane 0 + lane 1) + (lane 2 + lane 3)
 unfoldable pub dotOf : ℕ → (ℕ → Float) → (ℕ → Float) → Float
-unfolding add mul
-dotOf zero q k = plusZero
-dotOf (suc n) q k = add binary32 (dotOf n q k) (mul binary32 (q n) (k n))
+unfolding add laneOf
+dotOf n q k = add binary32 (add binary32 (laneOf 0 n q k) (laneOf 1 n q k)) (add binary32 (laneOf 2 n q k) (laneOf 3 n q k))
 
 -- s: the finished dot product times the scale
 unfoldable pub scoreOf : ℕ → (ℕ → Float) → (ℕ → Float) → Float → Float
@@ -57,17 +79,6 @@ unfoldable pub termOf : Largest → Float → Float
 unfolding sub expNegOf
 termOf noneSeen s = plusZero
 termOf (largest m) s = valueOrZero (expNegOf (sub binary32 m s))
-
--- x with a seen position's term added, and x itself at a position that is not seen
-abbrev pub addWhere : Bool → Float → Float → Float
-addWhere true x term = add binary32 x term
-addWhere false x term = x
-
--- the sum of the seen positions' terms, from +0
-unfoldable pub sumOf : ℕ → (ℕ → Bool) → (ℕ → Float) → Float
-unfolding add
-sumOf zero sees term = plusZero
-sumOf (suc n) sees term = addWhere (sees n) (sumOf n sees term) (term n)
 
 abbrev pub weightWhere : Bool → Float → Float → Float
 weightWhere true term total = div binary32 term total

@@ -1,4 +1,5 @@
-//! The scope document's examples A to M and examples of the score cap, made by the library and by the reference.
+//! The scope document's examples A to M and examples of the dot product and the score cap, made by the library and by the
+//! reference.
 
 use crate::call::*;
 use crate::compare::{compare, Memory};
@@ -184,6 +185,64 @@ fn functions() -> Result<(), String> {
     Ok(())
 }
 
+/// One query and one key of the same size.
+fn sized(query: &[f32], key: &[f32]) -> (Record, Inputs) {
+    let (record, inputs) = small(query, key, &[5.0]);
+    (Record { query_length: 1, key_length: 1, size: query.len() as u64, ..record }, inputs)
+}
+
+/// The dot product of ones and a key, as a score of mode 0, and at the step entry as a weight of a half beside a past key with the
+/// same dot product.
+fn dot(e: &mut Examples, key: &[f32], dot: f32) -> Result<(), String> {
+    let name = format!("the dot product of {key:?}");
+    let (record, inputs) = sized(&vec![1.0; key.len()], key);
+    expect(&name, same(&e.make(Record { score_mode: 0, ..record }, inputs.clone())?.scores, &[dot]))?;
+    let mut past_key = vec![0; key.len()];
+    past_key[0] = dot.to_bits();
+    let inputs = Inputs { past_key, past_value: vec![9f32.to_bits()], ..inputs };
+    let record = Record { causal: 1, form: CACHED, past: 1, score_mode: NO_SCORES, ..record };
+    let step = e.make_lending(Entry::Step, record, inputs, &record.lengths())?;
+    expect(&name, same(&step.work, &[0.5, 0.5]) && same(&step.output, &[7.0]))
+}
+
+/// Dot products whose order shows: t + u is t, and t + 2 u is a number of its own.
+fn dots(e: &mut Examples) -> Result<(), String> {
+    let (t, u) = (65536.0, 1.0 / 256.0);
+    let cases: [(&[f32], f32); 13] = [
+        (&[3.0], 3.0),
+        (&[-0.0], 0.0),
+        (&[-0.0, -0.0], 0.0),
+        (&[t, -t, u], u),
+        (&[u, t, u, -t], u),
+        (&[-0.0; 4], 0.0),
+        (&[t, u, 0.0, 0.0, -t], u),
+        (&[u, t, 0.0, 0.0, u, -t], 2.0 * u),
+        (&[0.0, 0.0, t, 0.0, u, u, -t], 2.0 * u),
+        (&[t, u, 0.0, 0.0, -t, 0.0, 0.0, 0.0], u),
+        (&[t, u, 0.0, 0.0, -t, u, 0.0, 0.0, u], 3.0 * u),
+        (&[t, 0.0, 0.0, 0.0, u, 0.0, 0.0, 0.0, -t], 0.0),
+        (&[-0.0; 256], 0.0),
+    ];
+    for (key, sum) in cases {
+        dot(e, key, sum)?;
+    }
+    // t and then u in a lane, and u in the next: one lane on, the first u would be seen.
+    for size in 5..=12 {
+        for k in 4..size {
+            let mut key = vec![0.0; size];
+            (key[k - 4], key[k - 3], key[k]) = (t, u, u);
+            dot(e, &key, t)?;
+        }
+    }
+    // 4097 * 4097 is 16785409, and rounded 16785408; products of -0 by underflow.
+    let (squares, roots) = ([-4096.0, 0.0, 0.0, 0.0, 4097.0], [4098.0, 0.0, 0.0, 0.0, 4097.0]);
+    for (query, key) in [(&squares[..], &roots[..]), (&[-1e-30; 4], &[1e-30; 4])] {
+        let (record, inputs) = sized(query, key);
+        expect("a product and its sum", same(&e.make(Record { score_mode: 0, ..record }, inputs)?.scores, &[0.0]))?;
+    }
+    Ok(())
+}
+
 /// Scores after a cap, as modes 1 and 2 show them and as the step entry weighs them; caps that are not allowed.
 fn caps(e: &mut Examples) -> Result<(), String> {
     let least = f32::from_bits(1);
@@ -288,6 +347,7 @@ pub fn check() -> Result<u64, String> {
     values(&mut e)?;
     near_limit(&mut e)?;
     functions()?;
+    dots(&mut e)?;
     caps(&mut e)?;
     edges(&mut e)?;
     Ok(e.made)

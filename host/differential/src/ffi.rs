@@ -36,7 +36,7 @@ pub struct AnswerSlots<'a> {
 mod library {
     #[allow(improper_ctypes)]
     extern "C" {
-        pub fn klaverdomp_attention_2(
+        pub fn klaverdomp_attention_3(
             record: *const u64, record_len: usize, scale: f32, softcap: f32,
             query: *const f32, query_len: usize, key: *const f32, key_len: usize, value: *const f32, value_len: usize,
             bool_mask: *const u8, bool_mask_len: usize, float_mask: *const f32, float_mask_len: usize,
@@ -47,7 +47,7 @@ mod library {
             work: *mut f32, work_len: usize,
             tensor: *mut u64, index: *mut u64, total: *mut u64, masked: *mut u64,
         ) -> u32;
-        pub fn klaverdomp_step_2(
+        pub fn klaverdomp_step_3(
             record: *const u64, record_len: usize, scale: f32, softcap: f32,
             query: *const f32, query_len: usize, key: *const f32, key_len: usize, value: *const f32, value_len: usize,
             past_key: *const f32, past_key_len: usize, past_value: *const f32, past_value_len: usize,
@@ -152,7 +152,7 @@ pub fn library_attention(
     record: &[u64], scale: u32, softcap: u32, i: &InputSlices, o: &mut OutputSlices, a: AnswerSlots,
 ) -> u32 {
     unsafe {
-        library::klaverdomp_attention_2(
+        library::klaverdomp_attention_3(
             record.as_ptr(), record.len(), f32::from_bits(scale), f32::from_bits(softcap),
             floats(i.query), i.query.len(), floats(i.key), i.key.len(), floats(i.value), i.value.len(),
             i.bool_mask.as_ptr(), i.bool_mask.len(), floats(i.float_mask), i.float_mask.len(),
@@ -171,7 +171,7 @@ pub fn library_step(
     record: &[u64], scale: u32, softcap: u32, i: &InputSlices, o: &mut OutputSlices, a: AnswerSlots,
 ) -> u32 {
     unsafe {
-        library::klaverdomp_step_2(
+        library::klaverdomp_step_3(
             record.as_ptr(), record.len(), f32::from_bits(scale), f32::from_bits(softcap),
             floats(i.query), i.query.len(), floats(i.key), i.key.len(), floats(i.value), i.value.len(),
             floats(i.past_key), i.past_key.len(), floats(i.past_value), i.past_value.len(),

@@ -230,6 +230,9 @@ fn random_inputs(random: &mut Random, record: &Record, lengths: &Lengths) -> Inp
         past_value: elements(random, lengths.past_value),
         live: live_counts(random, record, lengths.live),
     };
+    if random.once_in(32) {
+        products_of_minus_zero(random, &mut inputs);
+    }
     if record.form == COUNTED && random.once_in(2) {
         for tensor in [true, false] {
             let (elements, size) =
@@ -238,6 +241,19 @@ fn random_inputs(random: &mut Random, record: &Record, lengths: &Lengths) -> Inp
         }
     }
     inputs
+}
+
+/// Every product of a query and a key is -0: their signs differ, and the queries are zeros, or both are subnormal numbers.
+fn products_of_minus_zero(random: &mut Random, inputs: &mut Inputs) {
+    let (sign, zeros) = (random.bits32() & 0x8000_0000, random.once_in(2));
+    let style = if zeros { Style::Zeros } else { Style::Subnormal };
+    for bits in &mut inputs.query {
+        *bits = element(random, style) & 0x7FFF_FFFF | sign;
+    }
+    for bits in inputs.key.iter_mut().chain(&mut inputs.past_key) {
+        let key = if zeros { *bits } else { element(random, style) };
+        *bits = key & 0x7FFF_FFFF | (sign ^ 0x8000_0000);
+    }
 }
 
 /// Any bits at all at the padded positions.

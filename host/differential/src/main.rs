@@ -1,6 +1,7 @@
 //! Differential tests of the static library: the scope document's examples, the exponential and the tables, random
 //! sequences, and random calls against the plain f32 reference (bit for bit) and the f64 program (within a bound). Beside
 //! each random call stands one at the step entry, and beside each of either that has a score cap the same one without it.
+//! Dot products that are shown are held to their rule a second time.
 //!
 //!   klaverdomp-differential [--calls N] [--seed S] [--sessions N] [--exp-stride N] [--exact FILE]
 //!   klaverdomp-differential --seed S --only K        one random call and its step again, with their parameters
@@ -14,6 +15,7 @@ mod call;
 mod caps;
 mod compare;
 mod coverage;
+mod dots;
 mod exact;
 mod examples;
 mod exponential;
@@ -84,6 +86,8 @@ struct Tally {
     steps: StepCoverage,
     caps: caps::Reached,
     step_caps: caps::Reached,
+    dots: dots::Reached,
+    step_dots: dots::Reached,
     accuracy: Accuracy,
 }
 
@@ -101,6 +105,7 @@ fn random_call(seed: u64, number: u64, memory: &mut Memory, tally: &mut Tally) -
     tally.coverage.add(&call, &left.answer);
     let capped = tally.caps.add(memory, &call, Entry::General, &left, &mut random);
     capped.map_err(|text| at("call", &call, text))?;
+    tally.dots.add(&call, Entry::General, &left).map_err(|text| at("call", &call, text))?;
     if left.answer.refusal == 0 {
         let accuracy = accuracy::check(&call, &left.outputs, &left.answer, number).map_err(|text| at("call", &call, text))?;
         tally.accuracy.join(&accuracy);
@@ -110,6 +115,7 @@ fn random_call(seed: u64, number: u64, memory: &mut Memory, tally: &mut Tally) -
     tally.steps.add(&step, &left.answer);
     let capped = tally.step_caps.add(memory, &step, Entry::Step, &left, &mut step_random);
     capped.map_err(|text| at("step", &step, text))?;
+    tally.step_dots.add(&step, Entry::Step, &left).map_err(|text| at("step", &step, text))?;
     Ok(())
 }
 
@@ -145,6 +151,8 @@ fn say_tally(tally: &Tally, seconds: f64) {
     println!("steps: {}", tally.steps.describe());
     println!("caps: {}", tally.caps.describe(Entry::General));
     println!("caps of steps: {}", tally.step_caps.describe(Entry::Step));
+    println!("dots: {}", tally.dots.describe(Entry::General));
+    println!("dots of steps: {}", tally.step_dots.describe(Entry::Step));
     println!(
         "f64 program: {} rows, {} of them loose; largest output error {:.3e} of its sum of |weight * value| (call {}), \
          {:.3e} where scores are at most 16 without a cap (call {}), largest weight error {:.3e} (call {}), largest error of a \
@@ -200,7 +208,8 @@ fn run(options: &Options) -> Result<String, String> {
     }
     say_tally(&tally, start.elapsed().as_secs_f64());
     let caps = [tally.caps.missing(Entry::General), tally.step_caps.missing(Entry::Step)].concat();
-    reached(options.calls >= 200_000, [tally.coverage.missing(), tally.steps.missing(), caps].concat())?;
+    let dots = [tally.dots.missing(Entry::General), tally.step_dots.missing(Entry::Step)].concat();
+    reached(options.calls >= 200_000, [tally.coverage.missing(), tally.steps.missing(), caps, dots].concat())?;
     Ok(format!(
         "differential: {} calls compared, {} accepted, {} steps compared, {} accepted, {} chunks of {} sessions, {} values of E, \
          0 differences",

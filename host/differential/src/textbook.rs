@@ -78,8 +78,8 @@ pub struct Textbook<'a> {
     scale: f64,
     /// None where the call has none.
     pub cap: Option<f64>,
-    query: Dense,
-    key: Dense,
+    pub query: Dense,
+    pub key: Dense,
     pub value: Dense,
 }
 

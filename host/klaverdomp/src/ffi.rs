@@ -8,7 +8,7 @@ use crate::{Call, Done, Inputs, Outputs, Refusal, StepInputs, StepOutputs};
 
 #[allow(unsafe_code)]
 extern "C" {
-    fn klaverdomp_attention_2(
+    fn klaverdomp_attention_3(
         record: *const u64,
         record_len: usize,
         scale: f32,
@@ -44,7 +44,7 @@ extern "C" {
         total: *mut u64,
         masked: *mut u64,
     ) -> u32;
-    fn klaverdomp_step_2(
+    fn klaverdomp_step_3(
         record: *const u64,
         record_len: usize,
         scale: f32,
@@ -102,7 +102,7 @@ pub(crate) fn attention(call: &Call, inputs: &Inputs, outputs: &mut Outputs) -> 
     let (mut tensor, mut index, mut total, mut masked) = (0, 0, 0, 0);
     // SAFETY: see the head of the file.
     let number = unsafe {
-        klaverdomp_attention_2(
+        klaverdomp_attention_3(
             record.as_ptr(),
             record.len(),
             call.scale.unwrap_or(0.0),
@@ -148,7 +148,7 @@ pub(crate) fn step(call: &Call, inputs: &StepInputs, outputs: &mut StepOutputs) 
     let (mut tensor, mut index, mut total, mut masked) = (0, 0, 0, 0);
     // SAFETY: see the head of the file.
     let number = unsafe {
-        klaverdomp_step_2(
+        klaverdomp_step_3(
             record.as_ptr(),
             record.len(),
             call.scale.unwrap_or(0.0),

@@ -1,7 +1,7 @@
 -- `scores::score_rows` meets its contract. The loop's invariant: the elements before j are the scores of their keys, the others are as they were. Assumes nothing.
 use mathlib.Core.Path.{_≡_, refl, sym, ap, _∙_, subst}
 use mathlib.Core.List.{List, _++_, append-nil}
-use Prim.Native.Nat.{ℕ, _+_, _*_, _-_, _^_, _≤_, _<_}
+use Prim.Native.Nat.{ℕ, _+_, _*_, _%_, _-_, _^_, _≤_, _<_}
 use native.Mathlib.Nat.{add-mul}
 use native.Mathlib.Omega.{arith}
 use borrow.Author.Needs.{needs}
@@ -12,18 +12,18 @@ use lib.Ieee.{Float}
 use Rattle.tensor_laws.specs.Layout.{tabulate}
 use Rattle.tensor_laws.proofs.Tabulate.{length-tabulate}
 use Rattle.tensor_laws.proofs.Blocks.{writtenTo, block-more, rest-written}
-use Rattle.tensor_laws.proofs.Parts.{withPart, length-part as length-middle}
+use Rattle.tensor_laws.proofs.Parts.{withPart, length-withPart, length-part as length-middle}
 use Rattle.tensor_laws.proofs.Tails.{partOf, length-part, length-first}
 use Rattle.softmax.specs.Lists.{scoreRowsOf}
-use Rattle.scores.proofs.Eight.{scoreOfKey, scores-from, scores-all}
+use Rattle.scores.proofs.Keys.{scoreOfKey, scores-from, scores-all, block-fits}
 use Rattle.scores.proofs.score_rows.Statement.{statement}
 use Rattle.scores.proofs.score_rows.Tie as tie
 
 abbrev Inv-loop : tie.InvT-loop
-Inv-loop q keys stride scale out₀ n j₀ out j = (j ≤ length out₀) × (out ≡ writtenTo (scoreOfKey q keys stride scale) j out₀)
+Inv-loop q keys stride scale out₀ lanes₀ n j₀ out lanes j = (j ≤ length out₀) × (out ≡ writtenTo (scoreOfKey q keys stride scale) j out₀) × (length lanes ≡ 64)
 
 abbrev μ-loop : tie.MeasureT-loop
-μ-loop q keys stride scale out₀ n j₀ out j = length out₀ - j
+μ-loop q keys stride scale out₀ lanes₀ n j₀ out lanes j = length out₀ - j
 
 abbrev At : Type 0
 At = tie.At-loop Inv-loop μ-loop
@@ -37,7 +37,7 @@ scoreAt c = let s = c .args in scoreOfKey (s .q .now) (s .keys .now) (s .stride)
 
 loop-holds : tie.Need-loop-holds Inv-loop μ-loop
 unfolding tabulate
-loop-holds c = (omega arith, refl)
+loop-holds c = (omega arith, refl, refl)
 
 -- the scores written so far
 written-long : (c : At) → length (tabulate (c .loop .j) (scoreAt (startOf c))) ≡ c .loop .j
@@ -67,66 +67,105 @@ sub-loop c = omega arith
 mul-at : tie.Need-mul-at Inv-loop μ-loop
 mul-at c = let a = c .before in omega (arith, start-inside a (omega arith), keys-room a)
 
+sub-block-size : tie.Need-sub-block-size Inv-loop μ-loop
+sub-block-size c = omega arith
+
+block-size-requires : tie.Need-block-size-requires Inv-loop μ-loop
+block-size-requires c κs = tt
+
+-- the next block: fours of the keys that are left, sixteen at most
+abbrev Turn : Type 0
+Turn = tie.After-block-size Inv-loop μ-loop
+
+abbrev sizeOf : Turn → ℕ
+sizeOf c = c .block-size .result
+
+block : (c : Turn) → let left = length (startOf (c .before .before) .args .out .now) - c .before .before .loop .j in (sizeOf c % 4 ≡ 0) × (sizeOf c ≤ left) × (sizeOf c ≤ 16) × (4 ≤ sizeOf c)
+block c =
+    let left = length (startOf (c .before .before) .args .out .now) - c .before .before .loop .j in
+    subst (λ (n : ℕ). (n % 4 ≡ 0) × (n ≤ left) × (n ≤ 16) × (4 ≤ n)) (sym (c .block-size .ensures)) (block-fits left (c .before .loop-test .taken))
+
+-- it ends within the keys
+block-end : (c : Turn) → c .before .before .loop .j + sizeOf c ≤ length (startOf (c .before .before) .args .out .now)
+block-end c = omega (arith, block c .1, c .before .before .loop .inv .0)
+
 add-e : tie.Need-add-e Inv-loop μ-loop
-add-e c = omega (arith, room (c .before), as-long (c .before))
+add-e c = let a = c .before .before in omega (arith, block c .1, room a, as-long a)
 
-mul-score-eight : tie.Need-mul-score-eight Inv-loop μ-loop
-mul-score-eight c = let a = c .before in omega (arith, start-inside a (omega arith), keys-room a)
+mul-w : tie.Need-mul-w Inv-loop μ-loop
+mul-w c = omega (arith, block c .2)
 
-sub-score-eight : tie.Need-sub-score-eight Inv-loop μ-loop
-sub-score-eight c = let a = c .before in omega (arith, start-inside a (omega arith))
+mul-score-block : tie.Need-mul-score-block Inv-loop μ-loop
+mul-score-block c = let a = c .before .before in omega (arith, start-inside a (omega (arith, block-end c, block c .3)), keys-room a)
 
-part-score-eight-start : tie.Need-part-score-eight-start Inv-loop μ-loop
-part-score-eight-start c = let a = c .before in start-inside a (omega arith)
+sub-score-block : tie.Need-sub-score-block Inv-loop μ-loop
+sub-score-block c = let a = c .before .before in omega (arith, start-inside a (omega (arith, block-end c, block c .3)), keys-room a)
 
-part-score-eight-end : tie.Need-part-score-eight-end Inv-loop μ-loop
-part-score-eight-end c = search needs
+part-score-block-start : tie.Need-part-score-block-start Inv-loop μ-loop
+part-score-block-start c = let a = c .before .before in omega (arith, start-inside a (omega (arith, block-end c, block c .3)), keys-room a)
 
-mul-score-eight-2 : tie.Need-mul-score-eight-2 Inv-loop μ-loop
-mul-score-eight-2 c = let a = c .before .before in omega (arith, room a, as-long a)
+part-score-block-end : tie.Need-part-score-block-end Inv-loop μ-loop
+part-score-block-end c = search needs
 
-sub-score-eight-2 : tie.Need-sub-score-eight-2 Inv-loop μ-loop
-sub-score-eight-2 c = search needs
+sub-score-block-2 : tie.Need-sub-score-block-2 Inv-loop μ-loop
+sub-score-block-2 c = search needs
 
-part-score-eight-start-2 : tie.Need-part-score-eight-start-2 Inv-loop μ-loop
-part-score-eight-start-2 c = search needs
+part-lanes-start : tie.Need-part-lanes-start Inv-loop μ-loop
+part-lanes-start c = search needs
 
-part-score-eight-end-2 : tie.Need-part-score-eight-end-2 Inv-loop μ-loop
-part-score-eight-end-2 c = let a = c .before .before in omega (arith, as-long a)
+part-lanes-end : tie.Need-part-lanes-end Inv-loop μ-loop
+part-lanes-end c = let t = c .before in omega (arith, block t .2, t .before .before .loop .inv .2)
 
--- the part that is lent has eight elements
-part-eight : (c : tie.In-loop Inv-loop μ-loop) → let j = c .before .loop .j in length (take (j + 8 - j) (drop j (c .before .loop .out))) ≡ 8
-part-eight c =
-    let a = c .before in
+mul-score-block-2 : tie.Need-mul-score-block-2 Inv-loop μ-loop
+mul-score-block-2 c = let a = c .before .before .before .before in omega (arith, room a, as-long a, a .loop .inv .0)
+
+sub-score-block-3 : tie.Need-sub-score-block-3 Inv-loop μ-loop
+sub-score-block-3 c = search needs
+
+part-score-block-start-2 : tie.Need-part-score-block-start-2 Inv-loop μ-loop
+part-score-block-start-2 c = search needs
+
+part-score-block-end-2 : tie.Need-part-score-block-end-2 Inv-loop μ-loop
+part-score-block-end-2 c = let t = c .before .before in omega (arith, block-end t, as-long (t .before .before))
+
+-- the part that is lent has as many elements as the block has keys, and the lanes have four for each
+part-long : (c : Turn) → let j = c .before .before .loop .j in length (take (j + sizeOf c - j) (drop j (c .before .before .loop .out))) ≡ sizeOf c
+part-long c =
+    let a = c .before .before in
     let j = a .loop .j in
-    let e : j + 8 - j ≡ 8 = omega arith in
-    ap (λ (k : ℕ). length (take k (drop j (a .loop .out)))) e ∙ length-middle j 8 (a .loop .out) (omega (arith, as-long a))
+    let e : j + sizeOf c - j ≡ sizeOf c = omega arith in
+    ap (λ (k : ℕ). length (take k (drop j (a .loop .out)))) e ∙ length-middle j (sizeOf c) (a .loop .out) (omega (arith, as-long a, block-end c))
 
-score-eight-requires : tie.Need-score-eight-requires Inv-loop μ-loop
-score-eight-requires c κs =
-    let t = c .before .before in
-    let a = t .before in
+lanes-long : (c : Turn) → length (take (sizeOf c * 4 - 0) (drop 0 (c .before .before .loop .lanes))) ≡ sizeOf c * 4
+lanes-long c =
+    let lanes = c .before .before .loop .lanes in
+    let e : sizeOf c * 4 - 0 ≡ sizeOf c * 4 = omega arith in
+    ap (λ (k : ℕ). length (take k (drop 0 lanes))) e ∙ length-middle 0 (sizeOf c * 4) lanes (omega (arith, block c .2, c .before .before .loop .inv .2))
+
+score-block-requires : tie.Need-score-block-requires Inv-loop μ-loop
+score-block-requires c κs =
+    let t = c .before .before .before in
+    let a = t .before .before in
     let s = startOf a .args in
-    (part-eight t, omega (arith, inside a 7 (omega arith), length-part (a .loop .j * s .stride) (s .keys .now)))
+    ((omega (arith, part-long t, block t .0), omega (arith, part-long t, lanes-long t)), λ i l. omega (arith, inside a i (omega (arith, part-long t, block-end t)), length-part (a .loop .j * s .stride) (s .keys .now)))
 
 loop-less : tie.Need-loop-less Inv-loop μ-loop
-loop-less c = let t = c .before .before .before .before .before in omega (arith, t .loop-test .taken)
+loop-less c = let t = c .before .before .before .before .before .before .before in omega (arith, block t .3, block-end t)
 
 loop-again : tie.Need-loop-again Inv-loop μ-loop
 loop-again c =
-    let r = c .before .before in
-    let t = r .before .before .before in
-    let a = t .before in
+    let r = c .before .before .before in
+    let t = r .before .before .before .before in
+    let a = t .before .before in
     let start = startOf a in
     let s = start .args in
     let j = a .loop .j in
-    let l : j + 8 ≤ length (s .out .now) = omega (arith, t .loop-test .taken) in (
-      l,
-      (λ i. withPart j (j + 8 - j) (a .loop .inv .1 i) ((r .score-eight .ensures ∙ scores-from (s .q .now) (s .keys .now) (s .stride) (s .scale) j 8) i))
-          ∙ block-more (scoreAt start) (s .out .now) j (j + 8 - j) 8 (omega arith) l,
+    let m = sizeOf t in (
+      block-end t,
+      (λ i. withPart j (j + m - j) (a .loop .inv .1 i) ((r .score-block .ensures ∙ ap (scoreRowsOf (s .q .now) (partOf (j * s .stride) (s .keys .now)) (s .stride) (s .scale)) (part-long t) ∙ scores-from (s .q .now) (s .keys .now) (s .stride) (s .scale) j m) i))
+          ∙ block-more (scoreAt start) (s .out .now) j (j + m - j) m (omega arith) (block-end t),
+      length-withPart 0 (m * 4 - 0) (a .loop .lanes) (r .score-block .last .1 .1 .1 .1 .0) (omega (arith, r .score-block .kept .1 .1 .1 .1 .0, lanes-long t)) (omega (arith, block t .2, a .loop .inv .2)) ∙ a .loop .inv .2,
     )
-
--- ---- what is left
 
 mul-at-2 : tie.Need-mul-at-2 Inv-loop μ-loop
 mul-at-2 c = let a = c .before .before in omega (arith, start-inside a (c .if1 .taken), keys-room a)
@@ -224,16 +263,22 @@ score-rows-spec =
     loop-holds
     sub-loop
     mul-at
+    sub-block-size
+    block-size-requires
     add-e
-    mul-score-eight
-    sub-score-eight
-    part-score-eight-start
-    part-score-eight-end
-    mul-score-eight-2
-    sub-score-eight-2
-    part-score-eight-start-2
-    part-score-eight-end-2
-    score-eight-requires
+    mul-w
+    mul-score-block
+    sub-score-block
+    part-score-block-start
+    part-score-block-end
+    sub-score-block-2
+    part-lanes-start
+    part-lanes-end
+    mul-score-block-2
+    sub-score-block-3
+    part-score-block-start-2
+    part-score-block-end-2
+    score-block-requires
     loop-less
     loop-again
     mul-at-2

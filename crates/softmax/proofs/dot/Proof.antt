@@ -1,62 +1,113 @@
--- `softmax::dot` meets its contract. The loop's invariant: the sum is the dot product of the first i elements. Assumes nothing.
-use mathlib.Core.Path.{_≡_, refl, sym, ap, _∙_}
-use Prim.Native.Nat.{ℕ, _≤_, _-_}
-use native.Mathlib.Numerals.{add-one}
+-- `softmax::dot` meets its contract. The loop's invariant: the lanes are those of the first 4 m elements. Assumes nothing.
+use mathlib.Core.Path.{_≡_, sym, ap, _∙_}
+use mathlib.Core.List.{List}
+use Prim.Native.Nat.{_+_, _*_, _/_, _%_, _-_, _^_, _≤_, _<_}
+use native.Mathlib.Nat.{mul-mod-left, div-mul-le-self, div-add-mod', mod-lt}
 use native.Mathlib.Omega.{arith}
 use borrow.Author.Needs.{needs}
-use lib.ListN.{length, getD}
-use lib.Ieee.{Float, binary32, add, mul, nan, ofBits}
-use Rattle.softmax.specs.Row.{dotOf}
-use Rattle.softmax.specs.Lists.{elementOf, dotRowOf}
+use lib.Dec.{lit<}
+use lib.ListN.{length}
+use lib.Ieee.{Float, binary32, neg, add, ofBits}
+use Rattle.softmax.specs.Lists.{elementOf, lanesOf}
+use Rattle.softmax.proofs.Lanes.{lanes-start, lanes-four, lanes-joined}
 use Rattle.softmax.proofs.dot.Statement.{statement}
 use Rattle.softmax.proofs.dot.Tie as tie
 
 abbrev Inv-loop : tie.InvT-loop
-Inv-loop q k sum₀ i₀ sum i = (i ≤ length q) × (sum ≡ dotOf i (elementOf q) (elementOf k))
+Inv-loop q k lanes₀ fours m₀ lanes m = (m ≤ fours) × (lanes ≡ lanesOf q k (m * 4))
 
 abbrev μ-loop : tie.MeasureT-loop
-μ-loop q k sum₀ i₀ sum i = length q - i
+μ-loop q k lanes₀ fours m₀ lanes m = fours - m
 
 loop-holds : tie.Need-loop-holds Inv-loop μ-loop
-unfolding dotOf ofBits
-loop-holds c = (omega arith, refl)
+unfolding ofBits neg
+loop-holds c = let s = c .before .before .args in (omega arith, lanes-start (s .q .now) (s .k .now))
 
-mul-sum : tie.Need-mul-sum Inv-loop μ-loop
-mul-sum c = search needs
+abbrev At : Type 0
+At = tie.At-loop Inv-loop μ-loop
 
-shared-slice-read-sum : tie.Need-shared-slice-read-sum Inv-loop μ-loop
-shared-slice-read-sum c = search needs
+-- the four lanes stay as many
+as-long : (c : At) → length (c .loop .lanes) ≡ 4
+as-long c = let s = c .before .before .before .args in ap length (c .loop .inv .1) ∙ lanes-four (s .q .now) (s .k .now) (c .loop .m * 4)
 
-mul-sum-2 : tie.Need-mul-sum-2 Inv-loop μ-loop
-mul-sum-2 c = search needs
+-- the fours are within the row, and its bytes can be counted
+fours-inside : (c : At) → length (c .before .before .before .args .q .now) / 4 * 4 ≤ length (c .before .before .before .args .q .now)
+fours-inside c = div-mul-le-self (length (c .before .before .before .args .q .now)) 4
 
-shared-slice-read-sum-2 : tie.Need-shared-slice-read-sum-2 Inv-loop μ-loop
-shared-slice-read-sum-2 c = search needs
+room : (c : At) → length (c .before .before .before .args .q .now) * 4 < 2 ^ 63
+room c = c .before .before .before .good .0 .1
 
-add-i : tie.Need-add-i Inv-loop μ-loop
-add-i c = omega arith
+-- behind the last four
+behind : (c : At) → length (c .before .before .before .args .q .now) / 4 ≤ c .loop .m → c .loop .m ≡ length (c .before .before .before .args .q .now) / 4
+behind c h = omega (arith, c .loop .inv .0)
+
+slice-aggregate-add-lanes : tie.Need-slice-aggregate-add-lanes Inv-loop μ-loop
+slice-aggregate-add-lanes c = sym (as-long (c .before .before))
+
+mul-add-lanes : tie.Need-mul-add-lanes Inv-loop μ-loop
+mul-add-lanes c = let a = c .before .before in omega (arith, c .before .loop-test .taken, fours-inside a, room a)
+
+add-lanes-requires : tie.Need-add-lanes-requires Inv-loop μ-loop
+add-lanes-requires c κs =
+    let a = c .before .before in
+    let inside : a .loop .m * 4 + 4 ≤ length (a .before .before .before .args .q .now) = omega (arith, c .before .loop-test .taken, fours-inside a) in
+    (a .loop .inv .1, ((mul-mod-left (a .loop .m) 4, omega arith), (inside, omega (arith, inside, a .before .before .before .pre))))
+
+add-m : tie.Need-add-m Inv-loop μ-loop
+add-m c = let a = c .before .before .before .before in omega (arith, c .before .before .before .loop-test .taken, fours-inside a, room a)
 
 loop-less : tie.Need-loop-less Inv-loop μ-loop
-loop-less c = omega arith
+loop-less c = omega (arith, c .before .before .before .loop-test .taken)
 
 loop-again : tie.Need-loop-again Inv-loop μ-loop
-unfolding dotOf
 loop-again c =
-    let a = c .before .before .before in
-    let q = a .before .args .q .now in
-    let k = a .before .args .k .now in (
-      omega arith,
-      ap (λ (s : Float). add binary32 s (mul binary32 (getD q (a .loop .i) nan) (getD k (a .loop .i) nan))) (a .loop .inv .1)
-          ∙ ap (λ (n : ℕ). dotOf n (elementOf q) (elementOf k)) (sym (add-one (a .loop .i))),
-    )
+    let a = c .before .before .before .before in
+    let s = a .before .before .before .args in
+    let e : a .loop .m * 4 + 4 ≡ (a .loop .m + 1) * 4 = omega arith in
+    (omega (arith, c .before .before .before .loop-test .taken), c .before .add-lanes .ensures ∙ ap (lanesOf (s .q .now) (s .k .now)) e)
+
+slice-aggregate-add-lanes-2 : tie.Need-slice-aggregate-add-lanes-2 Inv-loop μ-loop
+slice-aggregate-add-lanes-2 c = sym (as-long (c .before .before))
+
+mul-add-lanes-2 : tie.Need-mul-add-lanes-2 Inv-loop μ-loop
+mul-add-lanes-2 c = let a = c .before .before in omega (arith, behind a (c .before .loop-test .left), fours-inside a, room a)
+
+mul-add-lanes-3 : tie.Need-mul-add-lanes-3 Inv-loop μ-loop
+mul-add-lanes-3 c = let a = c .before .before in omega (arith, behind a (c .before .loop-test .left), fours-inside a, room a)
+
+sub-add-lanes : tie.Need-sub-add-lanes Inv-loop μ-loop
+sub-add-lanes c = let a = c .before .before in omega (arith, behind a (c .before .loop-test .left), fours-inside a)
+
+add-lanes-requires-2 : tie.Need-add-lanes-requires-2 Inv-loop μ-loop
+add-lanes-requires-2 c κs =
+    let a = c .before .before in
+    let s = a .before .before .before .args in
+    let e = behind a (c .before .loop-test .left) in
+    let n = length (s .q .now) in
+    let split : n / 4 * 4 + n % 4 ≡ n = div-add-mod' n 4 in
+    let below : n % 4 < 4 = mod-lt n (lit< tt) in
+    let inside : a .loop .m * 4 + (n - a .loop .m * 4) ≤ n = omega (arith, e, fours-inside a) in
+    (a .loop .inv .1, ((mul-mod-left (a .loop .m) 4, omega (arith, e, split, below)), (inside, omega (arith, inside, a .before .before .before .pre))))
+
+array-read-result : tie.Need-array-read-result Inv-loop μ-loop
+array-read-result c = search needs
+
+array-read-result-2 : tie.Need-array-read-result-2 Inv-loop μ-loop
+array-read-result-2 c = search needs
+
+array-read-result-3 : tie.Need-array-read-result-3 Inv-loop μ-loop
+array-read-result-3 c = search needs
+
+array-read-result-4 : tie.Need-array-read-result-4 Inv-loop μ-loop
+array-read-result-4 c = search needs
 
 returns : tie.Need-returns Inv-loop μ-loop
-unfolding dotRowOf
 returns c =
-    let a = c .before in
-    let q = a .before .args .q .now in
-    let all : a .loop .i ≡ length q = omega arith in
-    a .loop .inv .1 ∙ ap (λ (n : ℕ). dotOf n (elementOf q) (elementOf (a .before .args .k .now))) all
+    let a = c .before .before .before .before in
+    let s = a .before .before .before .args in
+    let e : a .loop .m * 4 + (length (s .q .now) - a .loop .m * 4) ≡ length (s .q .now) = omega (arith, behind a (c .before .before .before .loop-test .left), fours-inside a) in
+    let all : c .before .add-lanes2 .last .0 ≡ lanesOf (s .q .now) (s .k .now) (length (s .q .now)) = c .before .add-lanes2 .ensures ∙ ap (lanesOf (s .q .now) (s .k .now)) e in
+    ap (λ (r : List Float). add binary32 (add binary32 (elementOf r 0) (elementOf r 1)) (add binary32 (elementOf r 2) (elementOf r 3))) all ∙ lanes-joined (s .q .now) (s .k .now)
 
 pub dot-spec : {M : Type 1} → statement M
 dot-spec =
@@ -65,11 +116,19 @@ dot-spec =
     Inv-loop
     μ-loop
     loop-holds
-    mul-sum
-    shared-slice-read-sum
-    mul-sum-2
-    shared-slice-read-sum-2
-    add-i
+    slice-aggregate-add-lanes
+    mul-add-lanes
+    add-lanes-requires
+    add-m
     loop-less
     loop-again
+    slice-aggregate-add-lanes-2
+    mul-add-lanes-2
+    mul-add-lanes-3
+    sub-add-lanes
+    add-lanes-requires-2
+    array-read-result
+    array-read-result-2
+    array-read-result-3
+    array-read-result-4
     returns)

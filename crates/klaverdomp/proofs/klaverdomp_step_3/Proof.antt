@@ -1,8 +1,8 @@
--- `klaverdomp::klaverdomp_step_2` meets its contract: the decoded call, the outcome of the step entry, and the report of its answer. Assumes nothing.
+-- `klaverdomp::klaverdomp_step_3` meets its contract: the decoded call, the outcome of the step entry, and the report of its answer. Assumes nothing.
 use borrow.Author.Needs.{needs}
 use Rattle.klaverdomp.proofs.Reported.{returned-is}
-use Rattle.klaverdomp.proofs.klaverdomp_step_2.Statement.{statement}
-use Rattle.klaverdomp.proofs.klaverdomp_step_2.Tie as tie
+use Rattle.klaverdomp.proofs.klaverdomp_step_3.Statement.{statement}
+use Rattle.klaverdomp.proofs.klaverdomp_step_3.Tie as tie
 
 decode-requires : tie.Need-decode-requires
 decode-requires c κs = search needs
@@ -31,8 +31,8 @@ returns c =
     let d = a .before .before .before .before .before in
     returned-is (c .report .result) (a .step .result) _ _ (c .report .ensures) (rw (d .decode .ensures) at (a .step .ensures))
 
-pub klaverdomp-step-2-spec : {M : Type 1} → statement M
-klaverdomp-step-2-spec =
+pub klaverdomp-step-3-spec : {M : Type 1} → statement M
+klaverdomp-step-3-spec =
     tie.close
     (tie.spec
     decode-requires
