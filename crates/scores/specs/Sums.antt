@@ -1,15 +1,10 @@
--- The lanes of several keys, four of each, one key after the other. Definitions only.
-use Prim.Native.Nat.{ℕ, _+_, _*_, _/_, _%_}
+-- What the lanes of keys are joined to, and how many keys a block has. Definitions only.
+use Prim.Native.Nat.{ℕ, _+_, _*_, _/_}
 use mathlib.Core.Bool.{Bool, true, false}
 use mathlib.Core.List.{List}
 use lib.Dec.{ltb}
 use lib.Ieee.{Float, binary32, add, mul}
-use Rattle.softmax.specs.Row.{laneOf}
 use Rattle.softmax.specs.Lists.{elementOf}
-
--- element t of the lanes of keys, over the first n elements of the row: lane t % 4 of key t / 4, whose row starts at t / 4 * stride
-abbrev pub laneAt : List Float → List Float → ℕ → ℕ → ℕ → Float
-laneAt q keys stride n t = laneOf (t % 4) n (elementOf q) (λ c. elementOf keys (t / 4 * stride + c))
 
 -- the lanes of key j joined, and scaled
 abbrev pub joinedAt : List Float → Float → ℕ → Float

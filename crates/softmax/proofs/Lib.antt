@@ -1,5 +1,4 @@
 pub mod Structure
-pub mod Lanes
 pub mod Bounds
 pub mod Unit
 pub mod Rows

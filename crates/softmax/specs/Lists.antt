@@ -6,7 +6,7 @@ use lib.ListN.{length, getD}
 use lib.Ieee.{Float, nan, inf, fin, binary32, add, mul}
 use lib.Ieee.Scale.{finite}
 use Rattle.tensor_laws.specs.Layout.{tabulate}
-use Rattle.softmax.specs.Row.{laneOf, dotOf, scoreOf, Largest, noneSeen, largest, largestOf, sumOf, weightOf, fullyMaskedOf}
+use Rattle.softmax.specs.Row.{dotOf, scoreOf, Largest, noneSeen, largest, largestOf, sumOf, weightOf, fullyMaskedOf}
 
 -- element i of a list
 abbrev pub elementOf : List Float → ℕ → Float
@@ -31,11 +31,6 @@ isScoreRow (x ∷ row) = (finite x || isHidden x) && isScoreRow row
 -- which positions a row of scores sees
 abbrev pub seesOf : List Float → ℕ → Bool
 seesOf row j = not (isHidden (elementOf row j))
-
--- the four lanes of the first n elements of two rows
-unfoldable pub lanesOf : List Float → List Float → ℕ → List Float
-unfolding tabulate laneOf
-lanesOf q k n = tabulate 4 (λ l. laneOf l n (elementOf q) (elementOf k))
 
 -- the dot product of two rows
 unfoldable pub dotRowOf : List Float → List Float → Float

@@ -1,42 +1,12 @@
-// One row of attention: dot products, softmax and weighted sum. Rows are parts of the caller's slices, read and written where they stand.
+// One row of attention: softmax and weighted sum. Rows are parts of the caller's slices, read and written where they stand.
 ghost use mathlib.Core.Path.{_≡_};
-ghost use Prim.Native.Nat.{ℕ, _+_, _*_, _%_, _≤_, _<_};
+ghost use Prim.Native.Nat.{ℕ, _+_, _*_, _≤_, _<_};
 ghost use lib.Dec.{T};
 ghost use lib.ListN.{length, replicate};
 ghost use lib.Ieee.{binary32, div};
 ghost use mathlib.Core.List.{map};
 ghost use Rattle.tensor_laws.specs.Layout.{tabulate};
-ghost use Rattle.softmax.specs.Lists.{elementOf, isScoreRow, lanesOf, dotRowOf, softmaxRowOf, maskedRowOf, accumulatedRowOf, weightedRowsOf, largestRowOf, totalRowOf};
-
-// The four lanes of the elements before `from`, which is a multiple of four, with the products of up to four elements more, each in its own lane.
-pub fn add_lanes(lanes: &mut [f32], q: &[f32], k: &[f32], from: usize, count: usize)
-    requires { ⌜ now lanes ≡ lanesOf (now q) (now k) from ⌝ }
-    requires { ⌜ (from % 4 ≡ 0) × (count ≤ 4) ⌝ }
-    requires { ⌜ (from + count ≤ length (now q)) × (from + count ≤ length (now k)) ⌝ }
-    ensures { λ _. ⌜ now (lanes .exit) ≡ lanesOf (now (q .entry)) (now (k .entry)) (from + count) ⌝ }
-{
-    let mut l = 0;
-    while l < count {
-        lanes[l] = lanes[l] + q[from + l] * k[from + l];
-        l += 1;
-    }
-}
-
-// The dot product of a row with the start of another that is no shorter.
-pub fn dot(q: &[f32], k: &[f32]) -> f32
-    requires { ⌜ length (now q) ≤ length (now k) ⌝ }
-    ensures { λ r. ⌜ r ≡ dotRowOf (now (q .entry)) (now (k .entry)) ⌝ }
-{
-    let mut lanes = [0.0; 4];
-    let fours = q.len() / 4;
-    let mut m = 0;
-    while m < fours {
-        add_lanes(&mut lanes, q, k, m * 4, 4);
-        m += 1;
-    }
-    add_lanes(&mut lanes, q, k, m * 4, q.len() - m * 4);
-    (lanes[0] + lanes[1]) + (lanes[2] + lanes[3])
-}
+ghost use Rattle.softmax.specs.Lists.{elementOf, isScoreRow, softmaxRowOf, maskedRowOf, accumulatedRowOf, weightedRowsOf, largestRowOf, totalRowOf};
 
 // Every element becomes x.
 pub fn fill_row(row: &mut [f32], x: f32)

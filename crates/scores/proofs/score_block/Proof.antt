@@ -6,7 +6,8 @@ use borrow.Author.Needs.{needs}
 use lib.ListN.{length}
 use Rattle.tensor_laws.specs.Layout.{tabulate}
 use Rattle.tensor_laws.proofs.Tabulate.{length-tabulate, tabulate-ext}
-use Rattle.scores.specs.Sums.{laneAt, joinedAt}
+use Rattle.lanes.specs.Sums.{laneAt}
+use Rattle.scores.specs.Sums.{joinedAt}
 use Rattle.scores.proofs.Keys.{scoreOfKey, joined-score, scores-all}
 use Rattle.scores.proofs.score_block.Statement.{statement}
 use Rattle.scores.proofs.score_block.Tie as tie

@@ -1,4 +1,4 @@
--- `scores::sum_rest` meets its contract. The loop's invariant: the lanes of the keys before j are those over the whole row, the others are as they were. Assumes nothing.
+-- `lanes::sum_rest` meets its contract. The loop's invariant: the lanes of the keys before j are those over the whole row, the others are as they were. Assumes nothing.
 use mathlib.Core.Path.{_≡_, refl, sym, ap, _∙_}
 use mathlib.Core.List.{List, _++_, append-nil}
 use Prim.Native.Nat.{ℕ, _+_, _*_, _/_, _-_, _^_, _≤_, _<_}
@@ -13,11 +13,12 @@ use Rattle.tensor_laws.proofs.Tabulate.{length-tabulate, getD-tabulate, tabulat
 use Rattle.tensor_laws.proofs.Parts.{withPart, length-part as length-middle}
 use Rattle.tensor_laws.proofs.Tails.{partOf, length-part, getD-part, length-first}
 use Rattle.tensor_laws.proofs.Blocks.{writtenTo, block-more, getD-unwritten}
-use Rattle.softmax.specs.Lists.{elementOf, lanesOf}
-use Rattle.scores.specs.Sums.{laneAt}
-use Rattle.scores.proofs.Keys.{lanes-of-key}
-use Rattle.scores.proofs.sum_rest.Statement.{statement}
-use Rattle.scores.proofs.sum_rest.Tie as tie
+use Rattle.softmax.specs.Lists.{elementOf}
+use Rattle.lanes.specs.Sums.{lanesOf}
+use Rattle.lanes.specs.Sums.{laneAt}
+use Rattle.lanes.proofs.Keys.{lanes-of-key}
+use Rattle.lanes.proofs.sum_rest.Statement.{statement}
+use Rattle.lanes.proofs.sum_rest.Tie as tie
 
 abbrev Inv-loop : tie.InvT-loop
 Inv-loop q keys stride lanes₀ from count n j₀ lanes j = (j ≤ length lanes₀ / 4) × (lanes ≡ writtenTo (laneAt q keys stride (length q)) (j * 4) lanes₀)

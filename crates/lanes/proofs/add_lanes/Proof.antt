@@ -1,4 +1,4 @@
--- `softmax::add_lanes` meets its contract. The loop's invariant: the lanes are those of the elements before from + l. Assumes nothing.
+-- `lanes::add_lanes` meets its contract. The loop's invariant: the lanes are those of the elements before from + l. Assumes nothing.
 use mathlib.Core.Path.{_≡_, sym, ap, _∙_}
 use mathlib.Core.List.{List}
 use Prim.Native.Nat.{_+_, _≤_, _<_, _-_}
@@ -6,10 +6,11 @@ use native.Mathlib.Nat.{add-zero}
 use native.Mathlib.Omega.{arith}
 use lib.ListN.{length, set}
 use lib.Ieee.{Float, binary32, add, mul}
-use Rattle.softmax.specs.Lists.{elementOf, lanesOf}
-use Rattle.softmax.proofs.Lanes.{lanes-four, lanes-next, remainder-behind}
-use Rattle.softmax.proofs.add_lanes.Statement.{statement}
-use Rattle.softmax.proofs.add_lanes.Tie as tie
+use Rattle.softmax.specs.Lists.{elementOf}
+use Rattle.lanes.specs.Sums.{lanesOf}
+use Rattle.lanes.proofs.Lanes.{lanes-four, lanes-next, remainder-behind}
+use Rattle.lanes.proofs.add_lanes.Statement.{statement}
+use Rattle.lanes.proofs.add_lanes.Tie as tie
 
 abbrev Inv-loop : tie.InvT-loop
 Inv-loop lanes₀ q k from count l₀ lanes l = (l ≤ count) × (lanes ≡ lanesOf q k (from + l))

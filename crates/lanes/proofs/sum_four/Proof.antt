@@ -1,4 +1,4 @@
--- `scores::sum_four` meets its contract. The loop's invariant: the lanes of each key are those of the first 4 m elements. Assumes nothing.
+-- `lanes::sum_four` meets its contract. The loop's invariant: the lanes of each key are those of the first 4 m elements. Assumes nothing.
 use mathlib.Core.Path.{_≡_, sym, ap, _∙_}
 use mathlib.Core.List.{List}
 use Prim.Native.Nat.{ℕ, _+_, _*_, _-_, _^_, _≤_, _<_}
@@ -10,12 +10,12 @@ use lib.Ieee.{Float, neg, ofBits}
 use Rattle.tensor_laws.specs.Layout.{tabulate}
 use Rattle.tensor_laws.proofs.Tabulate.{length-tabulate}
 use Rattle.tensor_laws.proofs.Tails.{partOf, length-part}
-use Rattle.softmax.specs.Lists.{lanesOf}
-use Rattle.softmax.proofs.Lanes.{lanes-start, lanes-four}
-use Rattle.scores.specs.Sums.{laneAt}
-use Rattle.scores.proofs.Keys.{lanes-of-four}
-use Rattle.scores.proofs.sum_four.Statement.{statement}
-use Rattle.scores.proofs.sum_four.Tie as tie
+use Rattle.lanes.specs.Sums.{lanesOf}
+use Rattle.lanes.proofs.Lanes.{lanes-start, lanes-four}
+use Rattle.lanes.specs.Sums.{laneAt}
+use Rattle.lanes.proofs.Keys.{lanes-of-four}
+use Rattle.lanes.proofs.sum_four.Statement.{statement}
+use Rattle.lanes.proofs.sum_four.Tie as tie
 
 abbrev Inv-loop : tie.InvT-loop
 Inv-loop q keys stride fours lanes a₀ b₀ c₀ d₀ m₀ a b c d m =

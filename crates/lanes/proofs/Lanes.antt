@@ -11,8 +11,9 @@ use lib.Ieee.{Float, binary32, add, mul}
 use Rattle.exponential.specs.ExpNeg.{plusZero}
 use Rattle.tensor_laws.specs.Layout.{tabulate}
 use Rattle.tensor_laws.proofs.Tabulate.{length-tabulate}
 use Rattle.softmax.specs.Row.{addWhere, sumOf, laneOf, dotOf}
-use Rattle.softmax.specs.Lists.{elementOf, lanesOf, dotRowOf}
+use Rattle.softmax.specs.Lists.{elementOf, dotRowOf}
+use Rattle.lanes.specs.Sums.{lanesOf}
 
 -- one element more, whose index has the remainder r
 lane-step : (q k : ℕ → Float) (l i r : ℕ) → i % 4 ≡ r → addWhere (eqb r l) (laneOf l i q k) (mul binary32 (q i) (k i)) ≡ laneOf l (i + 1) q k

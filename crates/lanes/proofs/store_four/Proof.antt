@@ -1,8 +1,8 @@
--- `scores::store_four` meets its contract. Assumes nothing.
+-- `lanes::store_four` meets its contract. Assumes nothing.
 use borrow.Author.Needs.{needs}
-use Rattle.scores.proofs.Stored.{four-stored}
-use Rattle.scores.proofs.store_four.Statement.{statement}
-use Rattle.scores.proofs.store_four.Tie as tie
+use Rattle.lanes.proofs.Stored.{four-stored}
+use Rattle.lanes.proofs.store_four.Statement.{statement}
+use Rattle.lanes.proofs.store_four.Tie as tie
 
 sub-copy-row : tie.Need-sub-copy-row
 sub-copy-row c = search needs

@@ -1,4 +1,4 @@
--- `scores::sum_fours` meets its contract. The loop's invariant: the lanes of the keys before 4 p are written, the others are as they were. Assumes nothing.
+-- `lanes::sum_fours` meets its contract. The loop's invariant: the lanes of the keys before 4 p are written, the others are as they were. Assumes nothing.
 use mathlib.Core.Path.{_≡_, refl, ap, _∙_}
 use mathlib.Core.List.{List, _++_, append-nil}
 use Prim.Native.Nat.{ℕ, _+_, _*_, _/_, _-_, _^_, _≤_, _<_}
@@ -13,10 +13,10 @@ use Rattle.tensor_laws.proofs.Tabulate.{length-tabulate, tabulate-ext}
 use Rattle.tensor_laws.proofs.Parts.{withPart, length-part as length-middle}
 use Rattle.tensor_laws.proofs.Tails.{partOf, length-part, length-first}
 use Rattle.tensor_laws.proofs.Blocks.{writtenTo, block-more}
-use Rattle.scores.specs.Sums.{laneAt}
-use Rattle.scores.proofs.Keys.{lane-from}
-use Rattle.scores.proofs.sum_fours.Statement.{statement}
-use Rattle.scores.proofs.sum_fours.Tie as tie
+use Rattle.lanes.specs.Sums.{laneAt}
+use Rattle.lanes.proofs.Keys.{lane-from}
+use Rattle.lanes.proofs.sum_fours.Statement.{statement}
+use Rattle.lanes.proofs.sum_fours.Tie as tie
 
 abbrev Inv-loop : tie.InvT-loop
 Inv-loop q keys stride lanes₀ fours passes p₀ lanes p = (p ≤ length lanes₀ / 16) × (lanes ≡ writtenTo (laneAt q keys stride (length q / 4 * 4)) (p * 16) lanes₀)

@@ -1,17 +1,18 @@
--- `softmax::dot` meets its contract. The loop's invariant: the lanes are those of the first 4 m elements. Assumes nothing.
+-- `lanes::dot` meets its contract. The loop's invariant: the lanes are those of the first 4 m elements. Assumes nothing.
 use mathlib.Core.Path.{_≡_, sym, ap, _∙_}
 use mathlib.Core.List.{List}
-use Prim.Native.Nat.{_+_, _*_, _/_, _%_, _-_, _^_, _≤_, _<_}
+use Prim.Native.Nat.{ℕ, _+_, _*_, _/_, _%_, _-_, _^_, _≤_, _<_}
 use native.Mathlib.Nat.{mul-mod-left, div-mul-le-self, div-add-mod', mod-lt}
 use native.Mathlib.Omega.{arith}
 use borrow.Author.Needs.{needs}
 use lib.Dec.{lit<}
 use lib.ListN.{length}
 use lib.Ieee.{Float, binary32, neg, add, ofBits}
-use Rattle.softmax.specs.Lists.{elementOf, lanesOf}
-use Rattle.softmax.proofs.Lanes.{lanes-start, lanes-four, lanes-joined}
-use Rattle.softmax.proofs.dot.Statement.{statement}
-use Rattle.softmax.proofs.dot.Tie as tie
+use Rattle.softmax.specs.Lists.{elementOf}
+use Rattle.lanes.specs.Sums.{lanesOf}
+use Rattle.lanes.proofs.Lanes.{lanes-start, lanes-four, lanes-joined}
+use Rattle.lanes.proofs.dot.Statement.{statement}
+use Rattle.lanes.proofs.dot.Tie as tie
 
 abbrev Inv-loop : tie.InvT-loop
 Inv-loop q k lanes₀ fours m₀ lanes m = (m ≤ fours) × (lanes ≡ lanesOf q k (m * 4))
@@ -36,6 +37,10 @@ fours-inside c = div-mul-le-self (length (c .before .before .before .args .q .no
 
 room : (c : At) → length (c .before .before .before .args .q .now) * 4 < 2 ^ 63
 room c = c .before .before .before .good .0 .1
+
+-- lanes of as many elements, counted in another way
+same-lanes : (q k x : List Float) {m n : ℕ} → m ≡ n → x ≡ lanesOf q k m → x ≡ lanesOf q k n
+same-lanes q k x e h = h ∙ ap (lanesOf q k) e
 
 -- behind the last four
 behind : (c : At) → length (c .before .before .before .args .q .now) / 4 ≤ c .loop .m → c .loop .m ≡ length (c .before .before .before .args .q .now) / 4
@@ -64,7 +69,7 @@ loop-again c =
     let a = c .before .before .before .before in
     let s = a .before .before .before .args in
     let e : a .loop .m * 4 + 4 ≡ (a .loop .m + 1) * 4 = omega arith in
-    (omega (arith, c .before .before .before .loop-test .taken), c .before .add-lanes .ensures ∙ ap (lanesOf (s .q .now) (s .k .now)) e)
+    (omega (arith, c .before .before .before .loop-test .taken), same-lanes (s .q .now) (s .k .now) _ e (c .before .add-lanes .ensures))
 
 slice-aggregate-add-lanes-2 : tie.Need-slice-aggregate-add-lanes-2 Inv-loop μ-loop
 slice-aggregate-add-lanes-2 c = sym (as-long (c .before .before))
@@ -106,7 +111,7 @@ returns c =
     let a = c .before .before .before .before in
     let s = a .before .before .before .args in
     let e : a .loop .m * 4 + (length (s .q .now) - a .loop .m * 4) ≡ length (s .q .now) = omega (arith, behind a (c .before .before .before .loop-test .left), fours-inside a) in
-    let all : c .before .add-lanes2 .last .0 ≡ lanesOf (s .q .now) (s .k .now) (length (s .q .now)) = c .before .add-lanes2 .ensures ∙ ap (lanesOf (s .q .now) (s .k .now)) e in
+    let all : c .before .add-lanes2 .last .0 ≡ lanesOf (s .q .now) (s .k .now) (length (s .q .now)) = same-lanes (s .q .now) (s .k .now) _ e (c .before .add-lanes2 .ensures) in
     ap (λ (r : List Float). add binary32 (add binary32 (elementOf r 0) (elementOf r 1)) (add binary32 (elementOf r 2) (elementOf r 3))) all ∙ lanes-joined (s .q .now) (s .k .now)
 
 pub dot-spec : {M : Type 1} → statement M
