@@ -1,6 +1,7 @@
-/* Klaverdomp: the attention operator of ONNX Attention 24 in f32, with key and value caches, and the house exponential that it uses.
+/* Klaverdomp: the attention operator of ONNX Attention 24 in f32, with key and value caches, the saved form of those caches, and the house
+ * exponential that the operator uses.
  *
- * This header is for C99 and C++. It declares the six functions of libklaverdomp.a, which have a number at the end of their names, and
+ * This header is for C99 and C++. It declares the ten functions of libklaverdomp.a, which have a number at the end of their names, and
  * has a wrapper for each, without that number, which is the function to call.
  *
  * EDITION. The number at the end of a name is the edition of the binary interface. A change of a record, a parameter or a meaning gives
@@ -11,20 +12,21 @@
  * and any bytes at all where softcap stands.
  *
  * OWNERSHIP. The caller owns all memory and lends it for the length of a call. Nothing is allocated, kept or freed. The lengths count
- * elements, and are true: that many elements stand at the pointer, which is aligned for its type. A null pointer stands for an empty
- * tensor, whatever length stands beside it.
+ * elements, and those of files and buffers bytes, and they are true: that many stand at the pointer, which is aligned for its type. A null
+ * pointer stands for an empty tensor, file or buffer, whatever length stands beside it.
  *
- * OVERLAP. A tensor that is written (output, present_key, present_value, scores, work) overlaps no other tensor of its call. So the past
- * caches of a step are not its present caches: keep two of each, and exchange them after a step. Tensors that are only read may overlap
- * each other.
+ * OVERLAP. What is written (output, present_key, present_value, scores, work; the caches of a load; the buffer of a begin or an append)
+ * overlaps nothing else that its call is lent. So the past caches of a step are not its present caches: keep two of each, and exchange
+ * them after a step. What is only read may overlap.
  *
- * THREADS. There is no state. Any number of threads may call at once, where no tensor that one of them writes is lent to another.
+ * THREADS. There is no state. Any number of threads may call at once, where nothing that one of them writes is lent to another.
  *
  * FLOATS. The calling thread has the floating-point environment that a C program starts with: rounding to nearest, subnormal numbers
  * kept. A program that is linked with -ffast-math may start with another one.
  *
- * A refused call leaves every element of every tensor as it was. A call that is done has written every element of output, present_key,
- * present_value, scores and work; none of them depends on what stood there before, and none is a NaN.
+ * A refused call leaves every element of every tensor and every byte of a buffer as it was. A call that is done has written every element
+ * of output, present_key, present_value, scores and work, or of the caches of a load; none of them depends on what stood there before, and
+ * none is a NaN. What a begin or an append writes stands beside it.
  */
 #ifndef KLAVERDOMP_H
 #define KLAVERDOMP_H
@@ -174,10 +176,12 @@ typedef struct klaverdomp_step_tensors {
 
 /* ---- the answer ---- */
 
-/* The lowest refusal that applies is the one that is given, but for 10: only klaverdomp_step gives it, and tests it before 1. */
+/* Of a call the lowest refusal that applies is the one that is given, but for 10: only klaverdomp_step gives it, and tests it before 1.
+ * The order of those of saved sessions stands beside their functions. */
 enum {
     KLAVERDOMP_DONE = 0,
-    KLAVERDOMP_LIMITS = 1,        /* a dimension or T is out of its limits, or P is not 0 outside a cached call */
+    KLAVERDOMP_LIMITS = 1,        /* a dimension or T is out of its limits, or P is not 0 outside a cached call; a saved session has sizes
+                                     out of their limits, or a 2,049th position */
     KLAVERDOMP_HEAD_GROUPS = 2,   /* the query heads are not a multiple of the key heads */
     KLAVERDOMP_SETTINGS = 3,      /* a rank, causal flag, score mode, given scale or softcap that is not allowed; a code that names no
                                      form, mask kind or scale kind */
@@ -188,7 +192,10 @@ enum {
     KLAVERDOMP_MASK_CELL = 8,     /* a byte of the mask is above 1, or a cell of it is a NaN or plus infinity */
     KLAVERDOMP_ELEMENT = 9,       /* an element is not a number of magnitude at most 65,536; positions past the live count are not
                                      looked at */
-    KLAVERDOMP_PROFILE = 10       /* the record is not of the step profile, which stands at klaverdomp_step_tensors */
+    KLAVERDOMP_PROFILE = 10,      /* the record is not of the step profile, which stands at klaverdomp_step_tensors */
+    KLAVERDOMP_FILE_RECORD = 11,  /* the first record of a saved session is missing, cut or of a wrong head, or a later one has a wrong
+                                     head */
+    KLAVERDOMP_ROOM = 16          /* a buffer is too small */
 };
 
 /* The tensors of refusal 9, in the order in which they are searched. */
@@ -207,6 +214,47 @@ typedef struct klaverdomp_answer {
     uint64_t total;       /* done: T; else 0 */
     uint64_t masked_rows; /* done: how many rows (b, h, i) see no key, and have zeros as their output; else 0 */
 } klaverdomp_answer;
+
+/* ---- saved sessions ---- */
+
+/* The caches of a session as bytes, so that it can be taken up after a stop: a row of records, each a u32 payload length, a u16 kind and
+ * the payload, all little-endian.
+ *
+ *   the first        kind 1, 8 bytes: B, Hkv, D and Dv as u16
+ *   every position   kind 2, 4 * B * Hkv * (D + Dv) bytes: for each batch and key head the f32 bits of its key row, then of its value row
+ *
+ * So n positions take 14 + n * (6 + 4 * B * Hkv * (D + Dv)) bytes. Sizes have the limits of a call, n is at most KLAVERDOMP_MAX_LENGTH,
+ * and elements are numbers of magnitude at most KLAVERDOMP_MAX_MAGNITUDE. One position with a key of 1 and a value of 2, all sizes 1, in
+ * hex:
+ *
+ *   08000000 0100 0100 0100 0100 0100   08000000 0200 0000803F 00000040
+ *
+ * A file that is cut after any byte behind the first record has exactly the positions that are whole in it. A cut record is one of which
+ * fewer than six bytes are there, whatever they hold, or the right head and not the whole payload, whose elements are not looked at. */
+enum {
+    KLAVERDOMP_SESSION_FIRST_BYTES = 14, /* the first record */
+    KLAVERDOMP_SESSION_HEAD_BYTES = 6    /* length and kind of a record */
+};
+
+/* What a file holds. The numbers behind place are 0 where it is refused. */
+typedef struct klaverdomp_session_reading {
+    uint32_t refusal;    /* KLAVERDOMP_DONE, or the number of the refusal */
+    uint64_t place;      /* refusal 9: the position at fault, from 0; refusal 11: the byte at which the record begins; else 0 */
+    uint64_t batches;    /* B */
+    uint64_t key_heads;  /* Hkv */
+    uint64_t head_size;  /* D */
+    uint64_t value_size; /* Dv */
+    uint64_t positions;  /* how many are whole in the file */
+    uint64_t used;       /* the byte behind the last whole record; a cut record begins there */
+} klaverdomp_session_reading;
+
+/* What a buffer holds after a begin or an append. The numbers behind place are 0 where it is refused. */
+typedef struct klaverdomp_session_saving {
+    uint32_t refusal;   /* KLAVERDOMP_DONE, or the number of the refusal */
+    uint64_t place;     /* refusal 9: the position at fault, counted as in the file; refusal 11: as in a reading; else 0 */
+    uint64_t positions; /* how many stand whole in the buffer: these are saved */
+    uint64_t used;      /* the byte behind the last of them: the file is what stands before it */
+} klaverdomp_session_saving;
 
 /* ---- the functions of the library ---- */
 
@@ -248,6 +296,32 @@ uint32_t klaverdomp_step_3(
     float *present_value, size_t present_value_len,
     float *work, size_t work_len,
     uint64_t *tensor, uint64_t *index, uint64_t *total, uint64_t *masked_rows);
+
+/* Every number of an answer is written, whatever it is. */
+
+uint32_t klaverdomp_session_inspect_1(
+    const uint8_t *file, size_t file_len,
+    uint64_t *batches, uint64_t *key_heads, uint64_t *head_size, uint64_t *value_size,
+    uint64_t *positions, uint64_t *used, uint64_t *place);
+
+uint32_t klaverdomp_session_load_1(
+    const uint8_t *file, size_t file_len,
+    float *keys, size_t keys_len,
+    float *values, size_t values_len,
+    uint64_t *batches, uint64_t *key_heads, uint64_t *head_size, uint64_t *value_size,
+    uint64_t *positions, uint64_t *used, uint64_t *place);
+
+uint32_t klaverdomp_session_begin_1(
+    uint8_t *buffer, size_t buffer_len,
+    uint64_t batches, uint64_t key_heads, uint64_t head_size, uint64_t value_size,
+    uint64_t *positions, uint64_t *used, uint64_t *place);
+
+uint32_t klaverdomp_session_append_1(
+    uint8_t *buffer, size_t buffer_len,
+    uint64_t used, uint64_t count,
+    const float *keys, size_t keys_len,
+    const float *values, size_t values_len,
+    uint64_t *positions, uint64_t *used_after, uint64_t *place);
 
 uint32_t klaverdomp_exp_neg_1(float d, float *value);
 void klaverdomp_exp_neg_row_1(float *row, size_t row_len, float largest);
@@ -325,12 +399,79 @@ static inline klaverdomp_answer klaverdomp_step(const klaverdomp_call *call, con
     return answer;
 }
 
+/* What a file holds, without its elements: the sizes, the whole positions, and the bytes that they use.
+ *
+ * The fault that comes first in byte order is the refusal: 11 for a first record that is missing, cut or of a wrong head, at byte 0, and
+ * for a whole head of wrong kind or length, at the byte where that record begins; 1 for sizes out of their limits and for the right head
+ * of a 2,049th position; 9 for an element of a whole record. */
+static inline klaverdomp_session_reading klaverdomp_session_inspect(const uint8_t *file, size_t file_len)
+{
+    const uint8_t no_byte = 0;
+    klaverdomp_session_reading r;
+    r.refusal = klaverdomp_session_inspect_1(
+        file ? file : &no_byte, file ? file_len : 0,
+        &r.batches, &r.key_heads, &r.head_size, &r.value_size, &r.positions, &r.used, &r.place);
+    return r;
+}
+
+/* The same, and the caches: keys get B * Hkv * n * D elements and values B * Hkv * n * Dv for the n whole positions, in cache order, so
+ * that they are the past caches of the next call. Any other length is refusal 6, after every refusal of the file. */
+static inline klaverdomp_session_reading klaverdomp_session_load(
+    const uint8_t *file, size_t file_len, float *keys, size_t keys_len, float *values, size_t values_len)
+{
+    const uint8_t no_byte = 0;
+    float no_float = 0.0f;
+    klaverdomp_session_reading r;
+    r.refusal = klaverdomp_session_load_1(
+        file ? file : &no_byte, file ? file_len : 0,
+        keys ? keys : &no_float, keys ? keys_len : 0,
+        values ? values : &no_float, values ? values_len : 0,
+        &r.batches, &r.key_heads, &r.head_size, &r.value_size, &r.positions, &r.used, &r.place);
+    return r;
+}
+
+/* Begins a file of these sizes: writes 14 bytes at the start of the buffer, of which nothing is looked at, and no others. Refusal 1 for
+ * sizes out of their limits, then 16 for a buffer of fewer bytes. */
+static inline klaverdomp_session_saving klaverdomp_session_begin(
+    uint8_t *buffer, size_t buffer_len, uint64_t batches, uint64_t key_heads, uint64_t head_size, uint64_t value_size)
+{
+    uint8_t no_byte = 0;
+    klaverdomp_session_saving s;
+    s.refusal = klaverdomp_session_begin_1(
+        buffer ? buffer : &no_byte, buffer ? buffer_len : 0,
+        batches, key_heads, head_size, value_size, &s.positions, &s.used, &s.place);
+    return s;
+}
+
+/* Adds `count` positions to the file in the first `used` bytes of the buffer, behind its last whole record: a cut record is written over.
+ * Keys are (B, Hkv, count, D) and values (B, Hkv, count, Dv), as a call has them at rank 4. All of them are written or none; bytes behind
+ * the new end stay as they were. A count of 0 changes no byte, and the answer is where the last whole record ends.
+ *
+ * The refusals, in this order: 16 where `used` is beyond the buffer; that of the file as klaverdomp_session_inspect gives it; 1 for more
+ * than 2,048 positions in all; 5 where keys or values have another length; 9 for an element of theirs, with the least position at fault;
+ * 16 where the buffer ends before the last of the records to be written does. */
+static inline klaverdomp_session_saving klaverdomp_session_append(
+    uint8_t *buffer, size_t buffer_len, uint64_t used, uint64_t count,
+    const float *keys, size_t keys_len, const float *values, size_t values_len)
+{
+    uint8_t no_byte = 0;
+    const float no_float = 0.0f;
+    klaverdomp_session_saving s;
+    s.refusal = klaverdomp_session_append_1(
+        buffer ? buffer : &no_byte, buffer ? buffer_len : 0,
+        used, count,
+        keys ? keys : &no_float, keys ? keys_len : 0,
+        values ? values : &no_float, values ? values_len : 0,
+        &s.positions, &s.used, &s.place);
+    return s;
+}
+
 /* What a refusal means, in words. */
 static inline const char *klaverdomp_refusal_text(uint32_t refusal)
 {
     switch (refusal) {
     case KLAVERDOMP_DONE: return "done";
-    case KLAVERDOMP_LIMITS: return "a dimension or the total length is out of its limits, or there is a past outside a cached call";
+    case KLAVERDOMP_LIMITS: return "a dimension or the number of positions is out of its limits, or an uncached call has a past";
     case KLAVERDOMP_HEAD_GROUPS: return "the query heads are not a multiple of the key heads";
     case KLAVERDOMP_SETTINGS: return "a form, mask kind, scale, score cap, score mode, rank or causal flag is not allowed";
     case KLAVERDOMP_MASK_SHAPE: return "a mask dimension is neither 1 nor its full size";
@@ -340,6 +481,8 @@ static inline const char *klaverdomp_refusal_text(uint32_t refusal)
     case KLAVERDOMP_MASK_CELL: return "a mask byte is above 1, or a mask cell is a NaN or plus infinity";
     case KLAVERDOMP_ELEMENT: return "an element is not a number of magnitude at most 65,536";
     case KLAVERDOMP_PROFILE: return "the call is not a step: cached, causal, rank 4, one position of one batch, no mask and no scores";
+    case KLAVERDOMP_FILE_RECORD: return "a record of a saved session has the wrong kind or length, or its first record is missing or cut";
+    case KLAVERDOMP_ROOM: return "a buffer is too small";
     default: return "no refusal has this number";
     }
 }

@@ -1,8 +1,8 @@
-"""Smoke test of the command line tool: known calls, chunks against a whole call, bad files, refused calls.
+"""Smoke test of the command line tool: known calls, chunks against a whole call, bad files, refused calls, saved sessions.
 
     python3 tests/command_line.py PROGRAM
 
-Writes and reads .npy files by itself, from their format. Exits non-zero at the first failure.
+Writes and reads .npy files by itself, from their format, and writes saved sessions. Exits non-zero at the first failure.
 """
 
 import random
@@ -268,27 +268,79 @@ def bad_usage(tool):
     tool.fails("two outputs in one file", 2, "is named for two outputs", "--mode", "3", "--scores", "y.npy")
     tool.fails("an output that cannot be written", 2, "no/s.npy", "--mode", "3", "--scores", "no/s.npy")
     for words in ((), ("no-such-command",), ("attend",), ("demo", "--head", "9"), ("demo", "--softcap", "x"),
-                  ("bench", "--shape", "6")):
+                  ("bench", "--shape", "6"), ("session",), ("session", "q.npy"), ("session", "info"),
+                  ("session", "info", "q.npy", "k.npy")):
         tool.expect(f"status of {words}", tool.run(*words)[0], 2)
-    for words in (("--help",), ("attend", "--help"), ("demo", "--help"), ("bench", "--help")):
+    for words in (("--help",), ("attend", "--help"), ("session", "--help"), ("demo", "--help"), ("bench", "--help")):
         status, out, _ = tool.run(*words)
         tool.expect(f"help of {words}", (status, "klaverdomp" in out), (0, True))
+
+
+def session_record(kind, payload):
+    return struct.pack("<IH", len(payload), kind) + payload
+
+
+def saved_sessions(tool):
+    """What 'session info' says of a sound file, of every cut of it, and of damaged ones."""
+    sizes = (2, 1, 3, 1)
+    first = session_record(1, struct.pack("<4H", *sizes))
+    positions = [session_record(2, struct.pack("<8f", *[p + n / 8 for n in range(8)])) for p in range(3)]
+    good = first + b"".join(positions)
+
+    def info(data):
+        (tool.folder / "s").write_bytes(data)
+        return tool.run("session", "info", "s")
+
+    for cut in range(len(first), len(good) + 1):
+        whole, behind = divmod(cut - len(first), len(positions[0]))
+        status, out, err = info(good[:cut])
+        tool.expect(f"info of {cut} bytes, {err}", (status, out), (0, f"""\
+batch            2
+key heads        1
+head size        3
+value head size  1
+positions        {whole} of at most 2048
+bytes used       {cut - behind}
+cut bytes behind {behind}
+"""))
+    nan = struct.pack("<f", float("nan"))
+    damaged = {
+        "nothing": (b"", "refusal 11: byte 0: the first record is missing, cut or"),
+        "a cut first record": (good[:13], "refusal 11: byte 0: "),
+        "no saved session": (npy((1,), [1]), "refusal 11: byte 0: "),
+        "nine batches": (good[:6] + b"\x09" + good[7:], "refusal 1: a size is outside its limits"),
+        "2,049 positions": (session_record(1, struct.pack("<4H", 1, 1, 1, 1)) + session_record(2, bytes(8)) * 2049,
+                            "or there are more than 2,048 positions"),
+        "another kind": (good[:56] + b"\x03" + good[57:], "refusal 11: byte 52: the record that begins there is"),
+        "another length": (good[:15] + b"\x01" + good[16:], "refusal 11: byte 14: "),
+        "a NaN": (good[:100] + nan + good[104:], "refusal 9: position 2 has an element"),
+    }
+    for what, (data, words) in damaged.items():
+        status, out, err = info(data)
+        tool.expect(f"{what}: {err}", (status, out, err.startswith("klaverdomp: refused: s: ") and words in err), (1, "", True))
+    status, _, err = tool.run("session", "info", "no-such-file")
+    tool.expect(f"no file: {err}", (status, "no-such-file: No such file" in err), (2, True))
 
 
 def demonstration(tool):
     status, out, err = tool.run("demo", "--output", "demo.svg", "--head", "2")
     tool.expect(f"demo: status, {err}", status, 0)
-    tool.expect("demo: cuts that agree", out.count(AGREE), 10)
+    tool.expect("demo: cuts that agree", (out.count(AGREE), out.count("saved and taken up")), (12, 2))
+    tool.expect("demo: the saved session", "positions        48 of" in tool.run("session", "info", "demo.session")[1], True)
     texts = picture_texts(tool)
     for text in ("key position j", "query position i", "weight", "no score cap", "a score cap of 2"):
         tool.expect(f"demo: {text}", text in texts, True)
-    for words, agree, panels in ((("--softcap", "0.5"), 10, ["no score cap", "a score cap of 0.5"]),
-                                 (("--softcap=0",), 5, ["no score cap"])):
+    for words, agree, panels in ((("--softcap", "0.5"), 12, ["no score cap", "a score cap of 0.5"]),
+                                 (("--softcap=0",), 6, ["no score cap"])):
         status, out, err = tool.run("demo", "--output", "demo.svg", *words)
         tool.expect(f"demo {words}: status, {err}", (status, out.count(AGREE)), (0, agree))
         tool.expect(f"demo {words}: panels", [text for text in picture_texts(tool) if "score cap" in text], panels)
     status, _, err = tool.run("demo", "--softcap", "nan")
     tool.expect(f"demo: a bad cap, {err}", (status, "the softcap is NaN" in err), (1, True))
+    for words, fault in ((("--session", "no/session"), "no/session: No such file"),
+                         (("--output", "one", "--session", "one"), "one is named for the picture and for the session")):
+        status, _, err = tool.run("demo", *words)
+        tool.expect(f"demo {words}: {err}", (status, fault in err), (2, True))
 
 
 def picture_texts(tool):
@@ -303,6 +355,10 @@ def measurements(tool):
     status, out, err = tool.run("bench", "--shape", "3", "--seconds", "0", "--no-shares")
     tool.expect(f"bench: status, {err}", (status, out.count("decode step B8 Hq8")), (0, 1))
     tool.expect("bench: no step and no cap", ("step / general" in out, "With a score cap" in out), (False, False))
+    status, out, err = tool.run("bench", "--sessions", "--seconds", "0")
+    tool.expect(f"bench: status, {err}", (status, out.count("load 2048"), out.count("append ")), (0, 1, 2))
+    tool.expect("bench: no shape", "decode step" in out, False)
+    tool.expect("bench: a shape of sessions", tool.run("bench", "--sessions", "--shape", "1")[0], 2)
 
 
 def closed_output(tool):
@@ -319,7 +375,7 @@ def main():
     with tempfile.TemporaryDirectory() as folder:
         tool = Tool(Path(sys.argv[1]).resolve(), Path(folder))
         for test in (known_calls, dot_products, capped_calls, chunks, capped_chunks, bad_files, refused_calls, bad_usage,
-                     demonstration, measurements, closed_output):
+                     saved_sessions, demonstration, measurements, closed_output):
             test(tool)
         print(f"command line: {tool.checks} checks passed")
 

@@ -1,27 +1,10 @@
-/* Every function of the header, called from C and from C++: the edges of the record, null pointers, and what each function answers.
- * The status is 0 exactly where all is as expected. */
+/* The functions of the header but those of saved sessions, called from C and from C++: the edges of the record, null pointers, and what
+ * each function answers. The status is 0 exactly where all is as expected. */
 #include <math.h>
-#include <stdio.h>
 #include <string.h>
 
+#include "expect.h"
 #include "klaverdomp.h"
-
-static int failures = 0;
-
-static void expect(int holds, const char *what)
-{
-    if (!holds) {
-        failures++;
-        printf("FAILED: %s\n", what);
-    }
-}
-
-static uint32_t bits(float x)
-{
-    uint32_t b;
-    memcpy(&b, &x, sizeof b);
-    return b;
-}
 
 /* One query against two keys, or one with a past of one, all sizes 1, scale 1. */
 static float query[1], key[2], value[2], past_key[1], past_value[1], output[1], present_key[2], present_value[2], scores[2], work[2];
@@ -356,7 +339,8 @@ static void values(void)
 
 int main(void)
 {
-    uint32_t n;
+    const uint32_t named[] = { 0, 1, 2, 3, 4, 5, 6, 7, 8, 9, 10, KLAVERDOMP_FILE_RECORD, KLAVERDOMP_ROOM };
+    size_t n;
     calls_that_are_done();
     calls_that_are_refused();
     steps();
@@ -364,7 +348,7 @@ int main(void)
     dot_products();
     record_lengths();
     values();
-    for (n = 0; n <= KLAVERDOMP_PROFILE; n++)
-        expect(strcmp(klaverdomp_refusal_text(n), klaverdomp_refusal_text(KLAVERDOMP_PROFILE + 1)) != 0, "a refusal's text");
+    for (n = 0; n < sizeof named / sizeof named[0]; n++)
+        expect(strcmp(klaverdomp_refusal_text(named[n]), klaverdomp_refusal_text(KLAVERDOMP_FILE_RECORD + 1)) != 0, "a refusal's text");
     return failures != 0;
 }

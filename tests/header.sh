@@ -1,6 +1,6 @@
 #!/usr/bin/env bash
-# The header compiles without a warning as C99 and as C++, a program that calls each of its functions ends with status 0 from either, and
-# so does the worked example. A program that calls a function of a former edition does not link.
+# The header compiles without a warning as C99 and as C++, programs that call each of its functions end with status 0 from either, and so
+# do the worked examples. A program that calls a function of a former edition does not link.
 # KLAVERDOMP_LIB_DIR names a folder with libklaverdomp.a; without it the static library is made where it is missing.
 set -eu
 cd "$(dirname "$0")/.."
@@ -11,12 +11,16 @@ flags="-O2 -Wall -Wextra -Wpedantic -Werror -Iinclude"
 library=${KLAVERDOMP_LIB_DIR:-target/staticlib}/libklaverdomp.a
 [ -f "$library" ] || rt staticlib klaverdomp
 
-gcc -std=c99 $flags -o "$made/header_c" tests/header.c "$library"
-g++ -std=c++11 $flags -x c++ -o "$made/header_cpp" tests/header.c -x none "$library"
-gcc -std=c99 $flags -o "$made/example" examples/prefill_and_steps.c "$library"
-"$made/header_c"
-"$made/header_cpp"
-"$made/example"
+for program in header header_sessions; do
+    gcc -std=c99 $flags -o "$made/${program}_c" "tests/$program.c" "$library"
+    g++ -std=c++11 $flags -x c++ -o "$made/${program}_cpp" "tests/$program.c" -x none "$library"
+    "$made/${program}_c"
+    "$made/${program}_cpp"
+done
+for example in prefill_and_steps saved_session; do
+    gcc -std=c99 $flags -o "$made/$example" "examples/$example.c" "$library"
+    (cd "$made" && "./$example")
+done
 
 links() { # FUNCTION
     printf 'unsigned %s(void);\nint main(void) { return (int)%s(); }\n' "$1" "$1" > "$made/links.c"

@@ -1,5 +1,5 @@
 #!/usr/bin/env bash
-# The host's tests: the Rust workspace's own, and the command line tool on .npy files that are made here.
+# The host's tests: the Rust workspace's own, and the command line tool on .npy files and saved sessions that are made here.
 # KLAVERDOMP_LIB_DIR names a folder with libklaverdomp.a; without it `rt staticlib klaverdomp` makes the library first.
 set -eu
 cd "$(dirname "$0")/.."

@@ -1,4 +1,4 @@
-//! Compiles reference/reference.c with gcc and links it and the static library. The library is looked for in
+//! Compiles the files of reference/ with gcc and links them and the static library. The library is looked for in
 //! target/staticlib of the repository, or in the folder that KLAVERDOMP_LIB_DIR names.
 
 use std::env;
@@ -12,15 +12,17 @@ fn run(command: &mut Command) {
 
 fn compile_reference(repository: &Path, out: &Path) {
     let source = repository.join("reference");
-    let object = out.join("reference.o");
-    run(Command::new("gcc")
-        .args(["-std=c11", "-O3", "-fPIC", "-ffp-contract=off", "-msse2", "-mfpmath=sse", "-Wall", "-Wextra", "-Werror", "-c"])
-        .arg(source.join("reference.c"))
-        .arg("-o")
-        .arg(&object));
     let archive = out.join("libklaverdomp_reference.a");
     let _ = std::fs::remove_file(&archive);
-    run(Command::new("ar").arg("crs").arg(&archive).arg(&object));
+    for name in ["reference", "session_file"] {
+        let object = out.join(name).with_extension("o");
+        run(Command::new("gcc")
+            .args(["-std=c11", "-O3", "-fPIC", "-ffp-contract=off", "-msse2", "-mfpmath=sse", "-Wall", "-Wextra", "-Werror", "-c"])
+            .arg(source.join(name).with_extension("c"))
+            .arg("-o")
+            .arg(&object));
+        run(Command::new("ar").arg("rcs").arg(&archive).arg(&object));
+    }
     println!("cargo:rerun-if-changed={}", source.display());
     println!("cargo:rustc-link-search=native={}", out.display());
     println!("cargo:rustc-link-lib=static=klaverdomp_reference");

@@ -25,7 +25,7 @@ either : (a b : Bool) → T (a || b) → T a ⊎ T b
 either true b t = inl tt
 either false b t = inr t
 
-four : (a b c d : Bool) → T (a && b && c && d) → T a × T b × T c × T d
+pub four : (a b c d : Bool) → T (a && b && c && d) → T a × T b × T c × T d
 four true true true true t = (tt, tt, tt, tt)
 
 five : (a b c d e : Bool) → T (a && b && c && d && e) → T a × T b × T c × T d × T e
@@ -34,7 +34,7 @@ five true true true true true t = (tt, tt, tt, tt, tt)
 eight : (a b c d e f g h : Bool) → T (a && b && c && d && e && f && g && h) → T a × T b × T c × T d × T e × T f × T g × T h
 eight true true true true true true true true t = (tt, tt, tt, tt, tt, tt, tt, tt)
 
-bounds : (lo hi x : ℕ) → T (within lo hi x) → (lo ≤ x) × (x ≤ hi)
+pub bounds : (lo hi x : ℕ) → T (within lo hi x) → (lo ≤ x) × (x ≤ hi)
 bounds lo hi x t = (leb→le lo x (and-l (leb lo x) (leb x hi) t), leb→le x hi (and-r (leb lo x) (leb x hi) t))
 
 -- ---- 1: dimensions

@@ -20,7 +20,7 @@ use call::Verdict;
 // ---- one tensor, every element
 
 // 1 where an element is not a number of magnitude at most 65,536, and 0 otherwise.
-fn fault_number(x: f32) -> u32
+pub fn fault_number(x: f32) -> u32
     ensures { λ r. ⌜ r ≡ faultNumber (elementFault x) ⌝ }
 {
     if -65536.0 <= x {

@@ -8,3 +8,4 @@ pub mod Exact
 pub mod Fraction
 pub mod Zero
 pub mod MinusZero
+pub mod Magnitudes

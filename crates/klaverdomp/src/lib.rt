@@ -1,5 +1,7 @@
 // The operator's exported functions: a call record as 18 numbers, a scale and a cap is decoded, the entry is called, and the answer is given back as numbers.
 // Every function takes any arguments. The number at the end of a name is the edition of the binary interface.
+pub mod sessions;
+
 ghost use mathlib.Core.Path.{_≡_};
 ghost use Rattle.call.specs.Tensors.{inputsOf, outputsOf};
 ghost use Rattle.attention.specs.Outcomes.{attentionOf};

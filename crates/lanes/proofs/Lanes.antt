@@ -15,11 +15,6 @@ use Rattle.softmax.specs.Row.{addWhere, sumOf, laneOf, dotOf}
 use Rattle.softmax.specs.Lists.{elementOf, dotRowOf}
 use Rattle.lanes.specs.Sums.{lanesOf}
 
--- one element more, whose index has the remainder r
-lane-step : (q k : ℕ → Float) (l i r : ℕ) → i % 4 ≡ r → addWhere (eqb r l) (laneOf l i q k) (mul binary32 (q i) (k i)) ≡ laneOf l (i + 1) q k
-unfolding laneOf sumOf
-lane-step q k l i r e = ap (λ (n : ℕ). addWhere (eqb n l) (laneOf l i q k) (mul binary32 (q i) (k i))) (sym e) ∙ ap (λ (n : ℕ). laneOf l n q k) (sym (add-one i))
-
 module _ (q k : List Float) where
   -- the lanes of no element
   pub lanes-start : replicate 4 plusZero ≡ lanesOf q k 0
@@ -33,7 +28,10 @@ module _ (q k : List Float) where
 
   -- one element more, whose index has the remainder r: its product goes into lane r, and the other lanes stay
   each-lane : (i r l : ℕ) → i % 4 ≡ r → addWhere (eqb r l) (laneOf l i (elementOf q) (elementOf k)) (mul binary32 (elementOf q i) (elementOf k i)) ≡ laneOf l (i + 1) (elementOf q) (elementOf k)
-  each-lane i r l e = lane-step (elementOf q) (elementOf k) l i r e
+  unfolding laneOf sumOf
+  each-lane i r l e =
+      ap (λ (n : ℕ). addWhere (eqb n l) (laneOf l i (elementOf q) (elementOf k)) (mul binary32 (elementOf q i) (elementOf k i))) (sym e)
+      ∙ ap (λ (n : ℕ). laneOf l n (elementOf q) (elementOf k)) (sym (add-one i))
 
   pub lanes-next : (i r : ℕ) → r < 4 → i % 4 ≡ r → set (lanesOf q k i) r (add binary32 (elementOf (lanesOf q k i) r) (mul binary32 (elementOf q i) (elementOf k i))) ≡ lanesOf q k (i + 1)
   unfolding lanesOf tabulate

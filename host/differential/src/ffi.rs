@@ -1,5 +1,6 @@
-//! The static library's exported functions and the reference's, each behind a safe function. Apart from the guard
-//! pages this is the only file with `unsafe`: every pointer comes from a slice that lives through the call.
+//! The static library's exported functions and the reference's, each behind a safe function; those of saved sessions are in
+//! `session_ffi`. Apart from that and the guard pages this is the only file with `unsafe`: every pointer comes from a slice
+//! that lives through the call.
 
 use crate::call::{Answer, Record};
 

@@ -178,7 +178,7 @@ fn element(random: &mut Random, style: Style) -> u32 {
     }
 }
 
-fn elements(random: &mut Random, length: usize) -> Vec<u32> {
+pub fn elements(random: &mut Random, length: usize) -> Vec<u32> {
     let style = random_style(random);
     (0..length).map(|_| element(random, style)).collect()
 }

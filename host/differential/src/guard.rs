@@ -99,6 +99,8 @@ pub enum Part {
     Other,
     Session,
     Call,
+    File,
+    Saved,
 }
 
 static PART: AtomicU64 = AtomicU64::new(Part::Other as u64);
@@ -136,7 +138,9 @@ extern "C" fn stopped(_: c_int) {
     match PART.load(Ordering::Relaxed) {
         part if part == Part::Call as u64 => say(b", replay with --only "),
         part if part == Part::Session as u64 => say(b", replay with --only-session "),
-        _ => say(b", in the examples or the exponential, number "),
+        part if part == Part::File as u64 => say(b", replay with --only-file "),
+        part if part == Part::Saved as u64 => say(b", replay with --only-saved "),
+        _ => say(b", in the examples or the exponential (0) or in the known files (1), number "),
     }
     say_number(NUMBER.load(Ordering::Relaxed));
     say(b"\n");

@@ -1,11 +1,15 @@
 //! Differential tests of the static library: the scope document's examples, the exponential and the tables, random
 //! sequences, and random calls against the plain f32 reference (bit for bit) and the f64 program (within a bound). Beside
 //! each random call stands one at the step entry, and beside each of either that has a score cap the same one without it.
-//! Dot products that are shown are held to their rule a second time.
+//! Dot products that are shown are held to their rule a second time. Saved sessions: every cut of some files, every other
+//! value of every byte of small ones, random calls of their functions against the reference's reader and writer, and random
+//! sessions that are saved, stopped and taken up.
 //!
-//!   klaverdomp-differential [--calls N] [--seed S] [--sessions N] [--exp-stride N] [--exact FILE]
+//!   klaverdomp-differential [--calls N] [--seed S] [--sessions N] [--files N] [--saved N] [--exp-stride N] [--exact FILE]
 //!   klaverdomp-differential --seed S --only K        one random call and its step again, with their parameters
 //!   klaverdomp-differential --seed S --only-session K
+//!   klaverdomp-differential --seed S --only-file K
+//!   klaverdomp-differential --seed S --only-saved K
 //!
 //! The file has the lines that `tools/exponential_vectors.py lines` prints.
 //! The last line begins with `differential:`. The exit status is 0 exactly if nothing differs.
@@ -15,16 +19,22 @@ mod call;
 mod caps;
 mod compare;
 mod coverage;
+mod damage;
 mod dots;
 mod exact;
 mod examples;
 mod exponential;
 mod ffi;
+mod file_coverage;
+mod files;
 mod generate;
 mod guard;
 mod lines;
 mod random;
+mod resumed;
+mod saved;
 mod sequences;
+mod session_ffi;
 mod steps;
 mod textbook;
 
@@ -40,10 +50,14 @@ struct Options {
     calls: u64,
     seed: u64,
     sessions: u64,
+    files: u64,
+    saved: u64,
     exp_stride: u64,
     exact: Option<String>,
     only: Option<u64>,
     only_session: Option<u64>,
+    only_file: Option<u64>,
+    only_saved: Option<u64>,
 }
 
 impl Options {
@@ -52,10 +66,14 @@ impl Options {
             calls: 300_000,
             seed: 1,
             sessions: 3_000,
+            files: 400_000,
+            saved: 1_500,
             exp_stride: 61,
             exact: None,
             only: None,
             only_session: None,
+            only_file: None,
+            only_saved: None,
         };
         let mut words = words;
         while let Some(word) = words.next() {
@@ -69,9 +87,13 @@ impl Options {
                 "--calls" => options.calls = number,
                 "--seed" => options.seed = number,
                 "--sessions" => options.sessions = number,
+                "--files" => options.files = number,
+                "--saved" => options.saved = number,
                 "--exp-stride" => options.exp_stride = number.max(1),
                 "--only" => options.only = Some(number),
                 "--only-session" => options.only_session = Some(number),
+                "--only-file" => options.only_file = Some(number),
+                "--only-saved" => options.only_saved = Some(number),
                 _ => return Err(format!("no option {word}")),
             }
         }
@@ -127,6 +149,55 @@ fn session(seed: u64, number: u64, memory: &mut Memory, counts: &mut sequences::
         .map_err(|text| format!("session {number}: {text}\n  replay with --seed {seed} --only-session {number}"))
 }
 
+/// A call of a function of saved sessions has the numbers from 2^61 on.
+fn random_file_call(
+    seed: u64, number: u64, memory: &mut files::Memory, coverage: &mut file_coverage::Coverage,
+) -> Result<(), String> {
+    let mut random = Random::new(seed, (1 << 61) + number);
+    guard::note(guard::Part::File, seed, number);
+    let call = damage::random_file_call(&mut random);
+    let (answer, _) = files::compare(memory, &call, &mut random)
+        .map_err(|text| format!("file call {number}: {text}\n  replay with --seed {seed} --only-file {number}"))?;
+    coverage.add(&call, &answer);
+    Ok(())
+}
+
+/// A saved session has the numbers from 2^60 on.
+fn saved_session(
+    seed: u64, number: u64, memory: (&mut Memory, &mut files::Memory), counts: &mut resumed::Counts,
+) -> Result<(), String> {
+    let mut random = Random::new(seed, (1 << 60) + number);
+    guard::note(guard::Part::Saved, seed, number);
+    resumed::session(&mut random, memory, counts)
+        .map_err(|text| format!("saved session {number}: {text}\n  replay with --seed {seed} --only-saved {number}"))
+}
+
+/// Saved sessions: files that are known, random calls, and sessions that are stopped and taken up. The calls that were compared.
+fn saved_sessions(options: &Options) -> Result<String, String> {
+    let (seed, start, mut memory) = (options.seed, Instant::now(), files::Memory::new());
+    guard::note(guard::Part::Other, seed, 1);
+    let mut random = Random::new(seed, 1 << 59);
+    let known = saved::Known { memory: &mut memory, random: &mut random, counts: saved::Counts::default() };
+    let known = known.check().map_err(|text| format!("files: {text}"))?;
+    println!(
+        "files: {} cuts, {} damages of one byte, {} calls; {:.1} s",
+        known.cuts, known.damages, known.calls, start.elapsed().as_secs_f64()
+    );
+    let (start, mut coverage) = (Instant::now(), file_coverage::Coverage::default());
+    for number in 0..options.files {
+        random_file_call(seed, number, &mut memory, &mut coverage)?;
+    }
+    println!("file calls: {}; {:.1} s", coverage.describe(), start.elapsed().as_secs_f64());
+    reached(options.files >= 200_000, coverage.missing())?;
+    let (start, mut calls, mut counts) = (Instant::now(), Memory::new(), resumed::Counts::default());
+    for number in 0..options.saved {
+        saved_session(seed, number, (&mut calls, &mut memory), &mut counts)?;
+    }
+    println!("saved sessions: {}; {:.1} s", counts.describe(), start.elapsed().as_secs_f64());
+    reached(options.saved >= 1_000, counts.missing())?;
+    Ok(format!("{} calls on saved sessions, {} sessions saved and taken up", known.calls + coverage.calls, counts.sessions))
+}
+
 fn replay_call(seed: u64, number: u64) -> Result<String, String> {
     let mut tally = Tally::default();
     let call = generate::random_call(&mut Random::new(seed, number));
@@ -143,6 +214,20 @@ fn replay_session(seed: u64, number: u64) -> Result<String, String> {
     let mut counts = sequences::Counts::default();
     session(seed, number, &mut Memory::new(), &mut counts)?;
     Ok(format!("differential: 1 session of {} chunks compared, no difference", counts.accepted + counts.refused))
+}
+
+fn replay_file(seed: u64, number: u64) -> Result<String, String> {
+    let call = damage::random_file_call(&mut Random::new(seed, (1 << 61) + number));
+    println!("file call {number}: {}", call.describe());
+    println!("  the reference answers {:?}", files::by_reference(&call).0);
+    random_file_call(seed, number, &mut files::Memory::new(), &mut file_coverage::Coverage::default())?;
+    Ok("differential: 1 call on a saved session compared, no difference".to_string())
+}
+
+fn replay_saved(seed: u64, number: u64) -> Result<String, String> {
+    let mut counts = resumed::Counts::default();
+    saved_session(seed, number, (&mut Memory::new(), &mut files::Memory::new()), &mut counts)?;
+    Ok(format!("differential: 1 saved session compared, taken up {} times, no difference", counts.taken_up))
 }
 
 fn say_tally(tally: &Tally, seconds: f64) {
@@ -181,6 +266,12 @@ fn run(options: &Options) -> Result<String, String> {
     if let Some(number) = options.only_session {
         return replay_session(seed, number);
     }
+    if let Some(number) = options.only_file {
+        return replay_file(seed, number);
+    }
+    if let Some(number) = options.only_saved {
+        return replay_saved(seed, number);
+    }
     guard::note(guard::Part::Other, seed, 0);
     let examples = examples::check().map_err(|text| format!("examples: {text}"))?;
     println!("examples: {examples} calls");
@@ -201,6 +292,7 @@ fn run(options: &Options) -> Result<String, String> {
     }
     println!("sequences: {}; {:.1} s", sessions.describe(), start.elapsed().as_secs_f64());
     reached(options.sessions >= 2_000, sessions.missing())?;
+    let saved = saved_sessions(options)?;
 
     let (start, mut tally) = (Instant::now(), Tally::default());
     for number in 0..options.calls {
@@ -211,7 +303,7 @@ fn run(options: &Options) -> Result<String, String> {
     let dots = [tally.dots.missing(Entry::General), tally.step_dots.missing(Entry::Step)].concat();
     reached(options.calls >= 200_000, [tally.coverage.missing(), tally.steps.missing(), caps, dots].concat())?;
     Ok(format!(
-        "differential: {} calls compared, {} accepted, {} steps compared, {} accepted, {} chunks of {} sessions, {} values of E, \
+        "differential: {} calls compared, {} accepted, {} steps compared, {} accepted, {} chunks of {} sessions, {saved}, {} values of E, \
          0 differences",
         options.calls, tally.coverage.answers[0], tally.steps.answers.iter().sum::<u64>(), tally.steps.answers[0],
         sessions.accepted + sessions.refused, sessions.sessions, exp.patterns + exp.exact + lines.values
@@ -246,7 +338,7 @@ mod tests {
 
     #[test]
     fn a_short_run_finds_no_difference() {
-        let words = "--calls 3000 --seed 7 --sessions 50 --exp-stride 100003".split(' ').map(String::from);
+        let words = "--calls 3000 --seed 7 --sessions 50 --files 3000 --saved 50 --exp-stride 100003".split(' ').map(String::from);
         run(&Options::read(words).unwrap()).unwrap();
     }
 }

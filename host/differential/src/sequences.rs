@@ -15,7 +15,7 @@ struct Position {
 }
 
 /// What stays the same through a session.
-struct Session {
+pub struct Session {
     settings: Record,
     scale: u32,
     softcap: u32,
@@ -99,6 +99,8 @@ impl Counts {
 struct Chunk {
     past: usize,
     length: usize,
+    /// How many of its positions are in the book: all, unless a stop has lost the others.
+    kept: usize,
     entry: Entry,
     output: Vec<u32>,
 }
@@ -137,7 +139,7 @@ fn tensor<'a>(rank: u64, batches: u64, heads: u64, size: u64, rows: &[&'a [u32]]
 }
 
 impl Session {
-    fn new(random: &mut Random) -> (Session, usize) {
+    pub fn new(random: &mut Random) -> (Session, usize) {
         let long = random.once_in(100);
         let profile = random.once_in(3);
         let (single, stepped) = if profile { random.pick(&[(6, 4), (7, 6), (8, 8)]) } else { (0, 1) };
@@ -170,8 +172,12 @@ impl Session {
     }
 
     /// Whether the settings are such that a chunk may be accepted at all.
-    fn allowed(&self) -> bool {
+    pub fn allowed(&self) -> bool {
         fault(self.softcap).is_none()
+    }
+
+    pub fn settings(&self) -> &Record {
+        &self.settings
     }
 
     /// Where a chunk is given: one that is not of the step profile often at the step entry first and then at the general one.
@@ -252,7 +258,7 @@ fn spoil_element(random: &mut Random, positions: &mut [Position]) {
 
 /// What has been accepted so far: the positions (the book), the chunks and the outputs of the last one.
 #[derive(Default)]
-struct History {
+pub struct History {
     book: Vec<Position>,
     chunks: Vec<Chunk>,
     last: Outputs,
@@ -284,6 +290,30 @@ impl Given {
 }
 
 impl History {
+    pub fn len(&self) -> usize {
+        self.book.len()
+    }
+
+    /// Key and value rows of some positions, in the order of the caches.
+    pub fn rows(&self, session: &Session, first: usize, end: usize) -> [Vec<u32>; 2] {
+        let s = &session.settings;
+        let rows = |part: fn(&Position) -> &[u32]| self.book[first..end].iter().map(part).collect::<Vec<_>>();
+        [
+            tensor(4, s.batches, s.key_heads, s.size, &rows(|p| &p.key)),
+            tensor(4, s.batches, s.key_heads, s.value_size, &rows(|p| &p.value)),
+        ]
+    }
+
+    /// Keeps the first positions alone, whose caches these outputs have.
+    pub fn keep(&mut self, positions: usize, last: Outputs) {
+        self.book.truncate(positions);
+        self.chunks.retain(|chunk| chunk.past < positions);
+        for chunk in &mut self.chunks {
+            chunk.kept = chunk.kept.min(positions - chunk.past);
+        }
+        self.last = last;
+    }
+
     /// Gives the chunk at an entry and enters it where it is accepted. Where it is refused, but neither by 10 nor for its
     /// lengths, the plain call over the book and the chunk is refused too.
     fn give(
@@ -300,7 +330,8 @@ impl History {
             if left.answer.total as usize != self.book.len() + length || left.answer.masked != 0 {
                 return Err(format!("answered {:?}", left.answer));
             }
-            self.chunks.push(Chunk { past: self.book.len(), length, entry, output: left.outputs.output.clone() });
+            let (past, output) = (self.book.len(), left.outputs.output.clone());
+            self.chunks.push(Chunk { past, length, kept: length, entry, output });
             self.book.extend(given.positions.iter().cloned());
             self.last = left.outputs;
         } else if !off_profile && given.fault != 1 {
@@ -315,13 +346,13 @@ impl History {
 }
 
 /// Output rows and presents of the chunks have the bits of the plain call over the whole book.
-fn against_plain(session: &Session, chunks: &[Chunk], book: &[Position], last: &Outputs, plain: &[u32]) -> Result<(), String> {
-    let s = &session.settings;
+fn against_plain(session: &Session, history: &History, plain: &[u32]) -> Result<(), String> {
+    let (s, History { book, chunks, last }) = (&session.settings, history);
     let (heads, size) = (s.query_heads as usize, s.value_size as usize);
     for chunk in chunks {
         for batch in 0..s.batches as usize {
             for head in 0..heads {
-                for i in 0..chunk.length {
+                for i in 0..chunk.kept {
                     let mine = row_at(s.rank, heads, chunk.length, batch, head, i) * size;
                     let whole = row_at(s.rank, heads, book.len(), batch, head, chunk.past + i) * size;
                     if chunk.output[mine..mine + size] != plain[whole..whole + size] {
@@ -331,17 +362,28 @@ fn against_plain(session: &Session, chunks: &[Chunk], book: &[Position], last: &
             }
         }
     }
-    let rows = |part: fn(&Position) -> &[u32]| book.iter().map(part).collect::<Vec<_>>();
-    if last.present_key != tensor(4, s.batches, s.key_heads, s.size, &rows(|p| &p.key))
-        || last.present_value != tensor(4, s.batches, s.key_heads, s.value_size, &rows(|p| &p.value))
-    {
+    let [keys, values] = history.rows(session, 0, book.len());
+    if last.present_key != keys || last.present_value != values {
         return Err("the last presents are not the book's rows".to_string());
     }
     Ok(())
 }
 
+/// Makes the plain call over the whole book and compares with it.
+pub fn against_whole(
+    random: &mut Random, memory: &mut Memory, session: &Session, history: &History,
+) -> Result<(), String> {
+    let plain = session.call(random, PLAIN, &history.book, (0, &Outputs::default()));
+    let left = compare(memory, &plain, Entry::General, random);
+    let left = left.map_err(|text| format!("the plain call: {text}\n  {}", plain.describe()))?;
+    if left.answer.refusal != 0 {
+        return Err(format!("the plain call over the book answered {:?}\n  {}", left.answer, plain.describe()));
+    }
+    against_plain(session, history, &left.outputs.output).map_err(|text| format!("{text}\n  {}", plain.describe()))
+}
+
 /// Makes the next chunk and gives it.
-fn next_chunk(
+pub fn next_chunk(
     random: &mut Random, memory: &mut Memory, session: &Session, history: &mut History, length: usize, counts: &mut Counts,
 ) -> Result<(), String> {
     let given = Given::new(random, session, history, length);
@@ -397,13 +439,6 @@ pub fn session(random: &mut Random, memory: &mut Memory, counts: &mut Counts) ->
         // A 2,049th position, which is refused.
         next_chunk(random, memory, &session, &mut history, 1, counts)?;
     }
-    let History { book, chunks, last } = history;
-    let plain = session.call(random, PLAIN, &book, (0, &Outputs::default()));
-    let left = compare(memory, &plain, Entry::General, random);
-    let left = left.map_err(|text| format!("the plain call: {text}\n  {}", plain.describe()))?;
-    if left.answer.refusal != 0 {
-        return Err(format!("the plain call over the book answered {:?}\n  {}", left.answer, plain.describe()));
-    }
-    counts.add(&session, &chunks, book.len() as u64);
-    against_plain(&session, &chunks, &book, &last, &left.outputs.output).map_err(|text| format!("{text}\n  {}", plain.describe()))
+    counts.add(&session, &history.chunks, history.book.len() as u64);
+    against_whole(random, memory, &session, &history)
 }

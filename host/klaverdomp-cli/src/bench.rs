@@ -1,4 +1,7 @@
-// How long calls take: the library beside a plain C program of the same rounding order, and where the library's time goes.
+// How long calls and saved sessions take: the library beside a plain C program of the same rounding order, and where the library's time
+// goes.
+
+mod sessions;
 
 use crate::args::Args;
 use crate::clock::seconds;
@@ -10,12 +13,13 @@ use std::hint::black_box;
 use std::time::{Duration, Instant};
 
 pub const HELP: &str = "\
-klaverdomp bench - how long calls take
+klaverdomp bench - how long calls and saved sessions take
 
-  klaverdomp bench [--seconds S] [--shape N] [--no-shares]
+  klaverdomp bench [--seconds S] [--shape N | --sessions] [--no-shares]
 
-  --seconds S    time for each measurement of a shape, at least 5 rounds each (default 3)
-  --shape N      only this one of the five shapes, 1 to 5
+  --seconds S    time for each measurement, at least 5 rounds each (default 3)
+  --shape N      only this one of the five shapes, 1 to 5, and no saved sessions
+  --sessions     only saved sessions
   --no-shares    only the ratios
 
 First the library's general entry beside a plain C program that does every operation in the same order
@@ -35,6 +39,10 @@ the general entry bit for bit, and the step entry, the general entry and the C p
 Then, on the two shapes of 512 positions, the general entry and the C program with a score cap of 30, compared bit for bit,
 and the general entry without a cap take turns. 'ratio' is library / plain C, both with the cap, and 'with / without' is the
 library with the cap / without it.
+
+Then saved sessions, in memory: a load of 2,048 positions into caches, an append of 512 to a file that is begun, and an append
+of one position behind 2,047, which reads the whole file first. The library and a plain C program that does the same checks
+(reference/session_file.c) are compared byte for byte and take turns with a memcpy of as many bytes as the whole file has.
 
 The shares are differences between medians of library calls that take turns, since a call cannot be looked into from outside:
   check          the refused call
@@ -82,7 +90,7 @@ impl Shape {
 
 pub fn run(words: Vec<OsString>) -> Result<(), Failure> {
     let usage = |words: String| Failure::Usage(words, "bench");
-    let args = Args::parse(words, &["--seconds", "--shape"], &["--no-shares"]).map_err(usage)?;
+    let args = Args::parse(words, &["--seconds", "--shape"], &["--sessions", "--no-shares"]).map_err(usage)?;
     let budget: f64 = args.number("--seconds", "a number").map_err(usage)?.unwrap_or(3.0);
     if !(0.0..=3600.0).contains(&budget) {
         return Err(usage(format!("--seconds {budget} is not from 0 to 3600")));
@@ -94,9 +102,18 @@ pub fn run(words: Vec<OsString>) -> Result<(), Failure> {
     let shapes: Vec<&Shape> =
         SHAPES.iter().enumerate().filter(|(n, _)| chosen.is_none_or(|one| one == n + 1)).map(|(_, s)| s).collect();
     let time = Duration::from_secs_f64(budget);
+    if args.flag("--sessions") {
+        return match chosen {
+            Some(_) => Err(usage("--sessions leaves out the shapes, so --shape does not go with it".to_string())),
+            None => sessions::run(time),
+        };
+    }
     ratios(&shapes, time)?;
     steps(&shapes, time)?;
     caps(&shapes, time)?;
+    if chosen.is_none() {
+        sessions::run(time)?;
+    }
     if args.flag("--no-shares") {
         return Ok(());
     }
@@ -127,7 +144,7 @@ fn ratios(shapes: &[&Shape], time: Duration) -> Result<(), Failure> {
         ))?;
     }
     if cfg!(not(reference)) {
-        say("\nreference/reference.c was not there when this tool was built, so there is no plain C program to compare with.\n")?;
+        say("\nreference/ was not there when this tool was built, so there is no plain C program to compare with.\n")?;
     }
     Ok(())
 }

@@ -1,27 +1,30 @@
-// A small made-up recording, whole and in chunks, without and with a score cap, and a picture of its weights.
+// A small made-up recording, whole, in chunks, and saved and taken up, without and with a score cap, and a picture of its weights.
 
 use crate::args::Args;
 use crate::picture::{svg, Heatmap, Panel};
 use crate::{say, Failure};
 use klaverdomp::{attention, explain, Buffers, Call, Inputs, Outputs, Session, Settings};
 use std::ffi::OsString;
-use std::fs;
+use std::fmt::Display;
+use std::fs::{self, File};
 use std::path::Path;
 
 pub const HELP: &str = "\
-klaverdomp demo - a small recording, whole and in chunks
+klaverdomp demo - a small recording, whole, in chunks, and saved and taken up
 
-  klaverdomp demo [--output FILE] [--head N] [--softcap C]
+  klaverdomp demo [--output FILE] [--session FILE] [--head N] [--softcap C]
 
 Makes a recording of 48 positions by a fixed rule (4 query heads, 2 key heads, head size 16), attends to it in one plain
-causal call and again in chunks with a KV cache, and compares the bits; then the same with a score cap. It draws the weights
-of one query head, without the cap and with it side by side.
+causal call and again in chunks with a KV cache, and compares the bits. Then it saves the session after every chunk of 5,
+stops after 25 positions in the middle of a save, takes the session up from its file and goes on, and compares again. Then
+all of it with a score cap. It draws the weights of one query head, without the cap and with it side by side.
 
   --output FILE   the picture, SVG (default klaverdomp-demo.svg)
+  --session FILE  the saved session, written anew (default: the picture's name with .session); 'klaverdomp session info' reads it
   --head N        the query head that is drawn, 0 to 3 (default 0)
   --softcap C     the cap, at most 65536 (default 2); 0 leaves out the part with a cap
 
-Exit status: 0 all bits agree; 1 some do not, or the cap is refused; 2 bad usage, or the picture cannot be written.
+Exit status: 0 all bits agree; 1 some do not, or the cap is refused; 2 bad usage, or a file cannot be written.
 ";
 
 const POSITIONS: usize = 48;
@@ -31,12 +34,16 @@ const SIZE: usize = 16;
 
 pub fn run(words: Vec<OsString>) -> Result<(), Failure> {
     let usage = |words: String| Failure::Usage(words, "demo");
-    let args = Args::parse(words, &["--output", "--head", "--softcap"], &[]).map_err(usage)?;
+    let args = Args::parse(words, &["--output", "--session", "--head", "--softcap"], &[]).map_err(usage)?;
     let head: usize = args.number("--head", "a whole number").map_err(usage)?.unwrap_or(0);
     if head >= Q_HEADS {
         return Err(usage(format!("--head {head}: there are heads 0 to {}", Q_HEADS - 1)));
     }
     let path = args.path("--output").unwrap_or(Path::new("klaverdomp-demo.svg"));
+    let session = args.path("--session").map_or_else(|| path.with_extension("session"), Path::to_path_buf);
+    if session == path {
+        return Err(usage(format!("{} is named for the picture and for the session", path.display())));
+    }
     let softcap: f32 = args.number("--softcap", "a number").map_err(usage)?.unwrap_or(2.0);
 
     let recording = Recording::make();
@@ -47,11 +54,12 @@ pub fn run(words: Vec<OsString>) -> Result<(), Failure> {
          One plain call gives {} outputs. The same positions in chunks, each after the KV cache of those before:\n",
         recording.query.len()
     ))?;
-    let mut same = recording.compare(&wholes[0])?;
+    let mut same = recording.compare(&wholes[0], &session)?;
     for whole in &wholes[1..] {
         say(&format!("The same with {}:\n", whole.label()))?;
-        same &= recording.compare(whole)?;
+        same &= recording.compare(whole, &session)?;
     }
+    say(&format!("The saved session: {}\n", session.display()))?;
     fs::write(path, draw(&wholes, head)).map_err(|error| Failure::File(format!("{}: {error}", path.display())))?;
     say(&format!("The weights of query head {head}: {}\n", path.display()))?;
     match same {
@@ -165,12 +173,17 @@ impl Recording {
         Ok(Whole { softcap, buffers })
     }
 
-    /// Says for each way to cut the recording how many outputs have the bits of the whole call; whether all do, and the caches too.
-    fn compare(&self, whole: &Whole) -> Result<bool, Failure> {
+    /// Says for each way to cut the recording, and for a saved session, how many outputs have the bits of the whole call; whether all
+    /// do, and the caches too.
+    fn compare(&self, whole: &Whole, path: &Path) -> Result<bool, Failure> {
         let expected = &whole.buffers.output;
-        let mut same = true;
+        let mut all = Vec::new();
         for (name, chunks) in cuts() {
-            let (outputs, caches) = self.in_chunks(whole.softcap, &chunks)?;
+            all.push((name, self.in_chunks(whole.softcap, &chunks)?));
+        }
+        all.push(("chunks of 5, saved and taken up", self.saved(whole.softcap, path)?));
+        let mut same = true;
+        for (name, (outputs, caches)) in all {
             let agree = outputs.iter().zip(expected).filter(|(a, b)| a.to_bits() == b.to_bits()).count();
             same &= agree == expected.len() && caches;
             let caches = if caches { "the caches too" } else { "the caches do not" };
@@ -181,22 +194,57 @@ impl Recording {
 
     /// The outputs of the chunks, put together, and whether the session's caches then have the bits of all keys and values.
     fn in_chunks(&self, softcap: f32, chunks: &[usize]) -> Result<(Vec<f32>, bool), Failure> {
-        let settings = Settings::new(Q_HEADS as u64, KV_HEADS as u64, SIZE as u64).with_softcap(softcap);
-        let mut session = Session::new(settings);
+        let mut session = Session::new(settings(softcap));
         let mut outputs = vec![0.0; self.query.len()];
-        let mut start = 0;
         for len in chunks {
-            let [query, key, value] = [&self.query, &self.key, &self.value].map(|tensor| cut(tensor, start, *len));
-            let mut out = vec![0.0; query.len()];
-            session.append(&query, &key, &value, &mut out).map_err(|refusal| Failure::Refused(refusal.to_string()))?;
-            for (h, rows) in out.chunks(len * SIZE).enumerate() {
-                let at = (h * POSITIONS + start) * SIZE;
-                outputs[at..at + rows.len()].copy_from_slice(rows);
-            }
-            start += len;
+            self.feed(&mut session, *len, &mut outputs)?;
         }
-        Ok((outputs, same_bits(session.keys(), &self.key) && same_bits(session.values(), &self.value)))
+        Ok((outputs, self.caches_agree(&session)))
     }
+
+    /// The same of a session that is saved after every chunk of 5, and after 25 positions is stopped in the middle of a save and taken
+    /// up from its file.
+    fn saved(&self, softcap: f32, path: &Path) -> Result<(Vec<f32>, bool), Failure> {
+        let failed = |error: &dyn Display| Failure::File(format!("{}: {error}", path.display()));
+        let mut session = Session::new(settings(softcap));
+        let mut outputs = vec![0.0; self.query.len()];
+        // written anew
+        let file = File::create(path).map_err(|error| failed(&error))?;
+        let mut stopped = false;
+        while session.len() < POSITIONS as u64 {
+            let left = POSITIONS - session.len() as usize;
+            self.feed(&mut session, left.min(5), &mut outputs)?;
+            session.save_to(path).map_err(|error| failed(&error))?;
+            if session.len() == 25 && !stopped {
+                let half = settings(softcap).sizes().file_len(24) + settings(softcap).sizes().record_len() / 2;
+                file.set_len(half as u64).map_err(|error| failed(&error))?;
+                session = Session::resume(settings(softcap), path).map_err(|error| failed(&error))?;
+                stopped = true;
+            }
+        }
+        Ok((outputs, self.caches_agree(&session)))
+    }
+
+    /// Feeds the next positions of the recording and puts their outputs where they belong.
+    fn feed(&self, session: &mut Session, len: usize, outputs: &mut [f32]) -> Result<(), Failure> {
+        let start = session.len() as usize;
+        let [query, key, value] = [&self.query, &self.key, &self.value].map(|tensor| cut(tensor, start, len));
+        let mut out = vec![0.0; query.len()];
+        session.append(&query, &key, &value, &mut out).map_err(|refusal| Failure::Refused(refusal.to_string()))?;
+        for (h, rows) in out.chunks(len * SIZE).enumerate() {
+            let at = (h * POSITIONS + start) * SIZE;
+            outputs[at..at + rows.len()].copy_from_slice(rows);
+        }
+        Ok(())
+    }
+
+    fn caches_agree(&self, session: &Session) -> bool {
+        same_bits(session.keys(), &self.key) && same_bits(session.values(), &self.value)
+    }
+}
+
+fn settings(softcap: f32) -> Settings {
+    Settings::new(Q_HEADS as u64, KV_HEADS as u64, SIZE as u64).with_softcap(softcap)
 }
 
 /// The rows of some positions, of every head.
@@ -239,6 +287,11 @@ mod tests {
                 let (outputs, caches) = recording.in_chunks(softcap, &chunks).ok().unwrap();
                 assert!(same_bits(&outputs, &whole.buffers.output) && caches);
             }
+            let path = std::env::temp_dir().join(format!("klaverdomp-demo-{}", std::process::id()));
+            let (outputs, caches) = recording.saved(softcap, &path).ok().unwrap();
+            assert!(same_bits(&outputs, &whole.buffers.output) && caches);
+            assert_eq!(fs::read(&path).unwrap().len(), settings(softcap).sizes().file_len(POSITIONS as u64));
+            fs::remove_file(path).unwrap();
         }
     }
 

@@ -1,4 +1,4 @@
-// The command line tool: attention on .npy files, a demonstration, and measurements.
+// The command line tool: attention on .npy files, saved sessions, a demonstration, and measurements.
 
 #![deny(unsafe_code)]
 
@@ -11,6 +11,7 @@ mod npy;
 mod picture;
 #[cfg(reference)]
 mod reference;
+mod session;
 
 use std::ffi::OsString;
 use std::io::{self, Write};
@@ -20,18 +21,19 @@ const HELP: &str = "\
 klaverdomp - attention for speech recognition (ONNX Attention 24, f32, KV caches)
 
   klaverdomp attend ...   one call: tensors from .npy files, results to .npy files
-  klaverdomp demo ...     a small recording, whole and in chunks; its weights as a picture
-  klaverdomp bench ...    how long calls take, beside a plain C program of the same rounding order
+  klaverdomp session ...  what a saved session holds
+  klaverdomp demo ...     a small recording, whole, in chunks, and saved and taken up; its weights as a picture
+  klaverdomp bench ...    how long calls and saved sessions take, beside a plain C program of the same rounding order
 
 'klaverdomp COMMAND --help' says more about each.
 
-Exit status: 0 done; 1 the operator refuses the call, or the demonstration finds bits that differ;
+Exit status: 0 done; 1 the operator refuses the call or the saved session, or the demonstration finds bits that differ;
 2 bad usage, a file that cannot be read or written.
 ";
 
 /// Why a command ends without being done.
 pub enum Failure {
-    /// The operator refuses the call, in words.
+    /// The operator refuses the call or the saved session, in words.
     Refused(String),
     /// Two results that should have equal bits do not.
     Differs(String),
@@ -63,13 +65,15 @@ fn run(command: Option<&str>, words: Vec<OsString>) -> Result<(), Failure> {
     match command {
         Some("attend") if help => say(attend::HELP),
         Some("attend") => attend::run(words),
+        Some("session") if help => say(session::HELP),
+        Some("session") => session::run(words),
         Some("demo") if help => say(demo::HELP),
         Some("demo") => demo::run(words),
         Some("bench") if help => say(bench::HELP),
         Some("bench") => bench::run(words),
         Some("--help" | "-h" | "help") => say(HELP),
         Some(other) => Err(Failure::Usage(format!("there is no command '{other}'"), "")),
-        None => Err(Failure::Usage("a command is missing: attend, demo or bench".to_string(), "")),
+        None => Err(Failure::Usage("a command is missing: attend, session, demo or bench".to_string(), "")),
     }
 }
 

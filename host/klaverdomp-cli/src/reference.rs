@@ -1,4 +1,4 @@
-// The plain C program of the same rounding order (reference/reference.h).
+// The plain C program of the same rounding order (reference/reference.h), and that of saved sessions (reference/session_file.h).
 #![allow(unsafe_code)]
 
 use klaverdomp::{Call, Done, Form, Inputs, MaskKind, Outputs};
@@ -67,12 +67,51 @@ struct ReferenceAnswer {
     masked: u64,
 }
 
+#[repr(C)]
+#[derive(Default)]
+struct ReferenceReading {
+    refusal: u64,
+    place: u64,
+    sizes: [u64; 4],
+    positions: u64,
+    used: u64,
+}
+
+#[repr(C)]
+#[derive(Default)]
+struct ReferenceSaving {
+    refusal: u64,
+    place: u64,
+    positions: u64,
+    used: u64,
+}
+
 extern "C" {
     fn reference_attention(
         call: *const ReferenceCall,
         inputs: *const ReferenceInputs,
         outputs: *mut ReferenceOutputs,
         answer: *mut ReferenceAnswer,
+    );
+    fn reference_session_load(
+        file: *const u8,
+        file_len: usize,
+        keys: *mut f32,
+        keys_len: usize,
+        values: *mut f32,
+        values_len: usize,
+        reading: *mut ReferenceReading,
+    );
+    fn reference_session_append(
+        buffer: *mut u8,
+        buffer_len: usize,
+        used: u64,
+        count: u64,
+        keys: *const f32,
+        keys_len: usize,
+        values: *const f32,
+        values_len: usize,
+        saving: *mut ReferenceSaving,
     );
 }
 
@@ -134,4 +173,23 @@ pub fn attention(call: &Call, inputs: &Inputs, outputs: &mut Outputs) -> Option<
     // SAFETY: every pointer comes from a slice with its length, and the program checks the lengths before it reads or writes.
     unsafe { reference_attention(&record, &inputs, &mut outputs, &mut answer) };
     (answer.refusal == 0).then_some(Done { total: answer.total, masked_rows: answer.masked })
+}
+
+/// Reads the caches from a file by the plain C program: how many positions it has; none if it is refused.
+pub fn session_load(file: &[u8], keys: &mut [f32], values: &mut [f32]) -> Option<u64> {
+    let mut reading = ReferenceReading::default();
+    let (keys, values) = (lent(keys), lent(values));
+    // SAFETY: each pointer is of a slice with its length, and the program checks the lengths before it reads or writes.
+    unsafe { reference_session_load(file.as_ptr(), file.len(), keys.at, keys.len, values.at, values.len, &mut reading) };
+    (reading.refusal == 0).then_some(reading.positions)
+}
+
+/// Adds positions to a file by the plain C program: how many it then has; none if that is refused.
+pub fn session_append(buffer: &mut [u8], used: u64, count: u64, keys: &[f32], values: &[f32]) -> Option<u64> {
+    let mut saving = ReferenceSaving::default();
+    let (keys, values) = (part(keys), part(values));
+    let (at, len) = (buffer.as_mut_ptr(), buffer.len());
+    // SAFETY: as above.
+    unsafe { reference_session_append(at, len, used, count, keys.at, keys.len, values.at, values.len, &mut saving) };
+    (saving.refusal == 0).then_some(saving.positions)
 }

@@ -258,7 +258,7 @@ pub struct Lengths {
 }
 
 /// The product, or `usize::MAX` if it is greater. A factor 0 makes it 0 whatever the others are.
-fn product(factors: &[u64]) -> usize {
+pub(crate) fn product(factors: &[u64]) -> usize {
     if factors.contains(&0) {
         return 0;
     }

@@ -4,6 +4,7 @@
 // elements as it says; `&mut` slices overlap nothing else; the library is proved to stay inside the slices it is lent, whatever
 // the numbers are, and keeps no pointer after it returns.
 
+use crate::session_file::{self, Reading, Saving, Sizes};
 use crate::{Call, Done, Inputs, Outputs, Refusal, StepInputs, StepOutputs};
 
 #[allow(unsafe_code)]
@@ -71,6 +72,56 @@ extern "C" {
         index: *mut u64,
         total: *mut u64,
         masked: *mut u64,
+    ) -> u32;
+    fn klaverdomp_session_inspect_1(
+        file: *const u8,
+        file_len: usize,
+        batches: *mut u64,
+        key_heads: *mut u64,
+        head_size: *mut u64,
+        value_size: *mut u64,
+        positions: *mut u64,
+        used: *mut u64,
+        place: *mut u64,
+    ) -> u32;
+    fn klaverdomp_session_load_1(
+        file: *const u8,
+        file_len: usize,
+        keys: *mut f32,
+        keys_len: usize,
+        values: *mut f32,
+        values_len: usize,
+        batches: *mut u64,
+        key_heads: *mut u64,
+        head_size: *mut u64,
+        value_size: *mut u64,
+        positions: *mut u64,
+        used: *mut u64,
+        place: *mut u64,
+    ) -> u32;
+    fn klaverdomp_session_begin_1(
+        buffer: *mut u8,
+        buffer_len: usize,
+        batches: u64,
+        key_heads: u64,
+        head_size: u64,
+        value_size: u64,
+        positions: *mut u64,
+        used: *mut u64,
+        place: *mut u64,
+    ) -> u32;
+    fn klaverdomp_session_append_1(
+        buffer: *mut u8,
+        buffer_len: usize,
+        used: u64,
+        count: u64,
+        keys: *const f32,
+        keys_len: usize,
+        values: *const f32,
+        values_len: usize,
+        positions: *mut u64,
+        used_after: *mut u64,
+        place: *mut u64,
     ) -> u32;
     fn klaverdomp_exp_neg_1(d: f32, value: *mut f32) -> u32;
     fn klaverdomp_exp_neg_row_1(row: *mut f32, len: usize, largest: f32);
@@ -178,6 +229,106 @@ pub(crate) fn step(call: &Call, inputs: &StepInputs, outputs: &mut StepOutputs) 
         )
     };
     Answer { number, tensor, index, total, masked }
+}
+
+/// What stands behind the pointers, or the refusal of that number.
+fn answered<T>(number: u32, place: u64, done: T) -> Result<T, session_file::Refusal> {
+    match number {
+        0 => Ok(done),
+        number => Err(session_file::Refusal { number, place }),
+    }
+}
+
+#[allow(unsafe_code)]
+pub(crate) fn session_inspect(file: &[u8]) -> Result<Reading, session_file::Refusal> {
+    let (mut reading, mut place) = (Reading::default(), 0);
+    // SAFETY: see the head of the file.
+    let number = unsafe {
+        klaverdomp_session_inspect_1(
+            file.as_ptr(),
+            file.len(),
+            &mut reading.sizes.batches,
+            &mut reading.sizes.kv_heads,
+            &mut reading.sizes.size,
+            &mut reading.sizes.v_size,
+            &mut reading.positions,
+            &mut reading.used,
+            &mut place,
+        )
+    };
+    answered(number, place, reading)
+}
+
+#[allow(unsafe_code)]
+pub(crate) fn session_load(file: &[u8], keys: &mut [f32], values: &mut [f32]) -> Result<Reading, session_file::Refusal> {
+    let (mut reading, mut place) = (Reading::default(), 0);
+    // SAFETY: see the head of the file.
+    let number = unsafe {
+        klaverdomp_session_load_1(
+            file.as_ptr(),
+            file.len(),
+            keys.as_mut_ptr(),
+            keys.len(),
+            values.as_mut_ptr(),
+            values.len(),
+            &mut reading.sizes.batches,
+            &mut reading.sizes.kv_heads,
+            &mut reading.sizes.size,
+            &mut reading.sizes.v_size,
+            &mut reading.positions,
+            &mut reading.used,
+            &mut place,
+        )
+    };
+    answered(number, place, reading)
+}
+
+#[allow(unsafe_code)]
+pub(crate) fn session_begin(buffer: &mut [u8], sizes: &Sizes) -> Result<Saving, session_file::Refusal> {
+    let (mut saving, mut place) = (Saving::default(), 0);
+    // SAFETY: see the head of the file.
+    let number = unsafe {
+        klaverdomp_session_begin_1(
+            buffer.as_mut_ptr(),
+            buffer.len(),
+            sizes.batches,
+            sizes.kv_heads,
+            sizes.size,
+            sizes.v_size,
+            &mut saving.positions,
+            &mut saving.used,
+            &mut place,
+        )
+    };
+    answered(number, place, saving)
+}
+
+#[allow(unsafe_code)]
+pub(crate) fn session_append(
+    buffer: &mut [u8],
+    used: u64,
+    count: u64,
+    keys: &[f32],
+    values: &[f32],
+) -> Result<Saving, session_file::Refusal> {
+    let (mut saving, mut place) = (Saving::default(), 0);
+    // SAFETY: see the head of the file.
+    let number = unsafe {
+        klaverdomp_session_append_1(
+            buffer.as_mut_ptr(),
+            buffer.len(),
+            used,
+            count,
+            keys.as_ptr(),
+            keys.len(),
+            values.as_ptr(),
+            values.len(),
+            &mut saving.positions,
+            &mut saving.used,
+            &mut place,
+        )
+    };
+    answered(number, place, saving)
 }
 
 #[allow(unsafe_code)]

@@ -3,8 +3,8 @@
 //! A call is a record ([`Call`]), borrowed tensors to read ([`Inputs`]) and borrowed tensors to write ([`Outputs`]).
 //! [`attention`] either does the call or answers the first refusal that applies, and then leaves every tensor as it was.
 //! [`step`] is the same for decode steps of one position alone, and takes neither masks nor live counts nor scores.
-//! [`Session`] keeps the KV cache of a recording that comes in chunks. A call and a session may have a score cap
-//! ([`Call::with_softcap`], [`Settings::with_softcap`]).
+//! [`Session`] keeps the KV cache of a recording that comes in chunks, and [`SavedSession`] keeps it in a file too, from which it is
+//! taken up after a stop. A call and a session may have a score cap ([`Call::with_softcap`], [`Settings::with_softcap`]).
 //!
 //! One query over two keys that are alike, so that each weighs a half:
 //!
@@ -40,7 +40,9 @@ mod call;
 mod explain;
 mod ffi;
 mod refusal;
+mod saved;
 mod session;
+pub mod session_file;
 mod step;
 
 use std::collections::TryReserveError;
@@ -48,6 +50,7 @@ use std::collections::TryReserveError;
 pub use call::{Call, Form, Lengths, MaskKind};
 pub use explain::explain;
 pub use refusal::Refusal;
+pub use saved::{SaveError, SavedSession};
 pub use session::{Session, Settings};
 pub use step::{is_step, step, StepInputs, StepOutputs};
 

@@ -1,5 +1,6 @@
 //! The KV cache of a recording that comes in chunks.
 
+use crate::session_file::Sizes;
 use crate::{attention, before_outputs, is_step, step, Call, Done, Refusal, StepInputs, StepOutputs};
 
 /// What stays the same through a session.
@@ -47,6 +48,11 @@ impl Settings {
 
     pub fn with_softcap(self, softcap: f32) -> Settings {
         Settings { softcap, ..self }
+    }
+
+    /// The sizes of the caches.
+    pub fn sizes(&self) -> Sizes {
+        Sizes { batches: self.batches, kv_heads: self.kv_heads, size: self.size, v_size: self.v_size }
     }
 
     /// The causal cached call of `len` positions after `past` ones.
@@ -130,6 +136,12 @@ impl Session {
     /// A session of no positions. Settings outside the limits are refused by the first chunk.
     pub fn new(settings: Settings) -> Session {
         Session { settings, len: 0, keys: Cache::default(), values: Cache::default(), work: Vec::new() }
+    }
+
+    /// A session of `len` positions whose caches these are, of the settings' sizes and that length.
+    pub(crate) fn from_caches(settings: Settings, len: u64, keys: Vec<f32>, values: Vec<f32>) -> Session {
+        let cache = |past| Cache { past, present: Vec::new() };
+        Session { len, keys: cache(keys), values: cache(values), ..Session::new(settings) }
     }
 
     /// One chunk of one or more positions: its queries, keys and values in the layout of the session's rank, and its output.

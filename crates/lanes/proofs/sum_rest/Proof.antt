@@ -43,7 +43,7 @@ mul-from : tie.Need-mul-from Inv-loop μ-loop
 mul-from c = let b = c .before .before .before in omega (arith, div-mul-le-self (length (b .args .q .now)) 4, b .good .0 .1)
 
 sub-count : tie.Need-sub-count Inv-loop μ-loop
-sub-count c = div-mul-le-self (length (c .before .before .before .args .q .now)) 4
+sub-count c = omega (arith, div-mul-le-self (length (c .before .before .before .args .q .now)) 4)
 
 -- the fours are the whole row
 returns : tie.Need-returns Inv-loop μ-loop

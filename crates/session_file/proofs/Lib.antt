@@ -1,0 +1,5 @@
+pub mod Examples
+pub mod Below
+pub mod Joined
+pub mod Walks
+pub mod Limits

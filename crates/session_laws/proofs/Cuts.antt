@@ -1,0 +1,185 @@
+-- A file in which positions stand, cut after any byte: the reader gives exactly the positions that are whole. Assumes nothing.
+use mathlib.Core.Path.{_≡_, sym, ap, _∙_, subst}
+use mathlib.Core.Logic.{_⊎_, inl, inr}
+use mathlib.Core.Bool.{Bool, true, false, _&&_, cond, true≢false}
+use mathlib.Core.List.{List}
+use Prim.Native.Nat.{ℕ, zero, suc, _+_, _-_, _*_, _/_, _≤_, _<_}
+use native.Mathlib.Nat.{div-add-mod', mod-lt, mul-le-mul-right, mul-assoc}
+use native.Mathlib.Decide.{decLt}
+use native.Mathlib.Omega.{arith}
+use lib.Dec.{leb, ltb}
+use lib.ListN.{length, take}
+use lib.Seq.{length-take-le}
+use borrow.Author.Tests.{lt-ltb, le-ltb, le-leb, lt-leb}
+use Rattle.call.specs.Contents.{elementFault}
+use Rattle.records.specs.Records.{headIs}
+use Rattle.records.proofs.Places.{u16At-take, f32At-take, headIs-take}
+use Rattle.session_file.specs.declared.Sizes.{Sizes}
+use Rattle.session_file.specs.declared.Refusal.the-variants.{Limits, Record}
+use Rattle.session_file.specs.declared.Next.{Next}
+use Rattle.session_file.specs.declared.Next.the-variants.{Ended, Cut, Whole}
+use Rattle.session_file.specs.declared.Reading.the-variants.{Session as SessionRead, Refused}
+use Rattle.session_file.specs.Sizes.{sizesHold, mostPositions, rowsOf, payloadLength, recordLength, positionAt}
+use Rattle.session_file.specs.Reader.{nextOf, payloadFault, positionFault, atMost, onward, walkFrom, sizesAt, firstWhole, readOf}
+use Rattle.session_file.proofs.Below.{number-ext}
+use Rattle.session_file.proofs.Walks.{Standing, next-at}
+
+-- ---- positions rise
+
+pub position-mono : (z : Sizes) (p q : ℕ) → p ≤ q → positionAt z p ≤ positionAt z q
+position-mono z p q l = omega (arith, mul-le-mul-right (recordLength z) l)
+
+-- a record ends where a later one begins, or before
+pub record-end : (z : Sizes) (p n : ℕ) → p < n → positionAt z p + recordLength z ≤ positionAt z n
+record-end z p n l = rw (sym (next-at z p)) (position-mono z (suc p) n l)
+
+-- ---- what stands at a place
+
+module _ (z : Sizes) (file : List ℕ) (p : ℕ) where
+  pub ended-at : length file < positionAt z p + 6 → nextOf z file p ≡ Ended
+  unfolding nextOf
+  ended-at l = rw (lt-ltb (length file) (positionAt z p + 6) l)
+
+  pub cut-at : positionAt z p + 6 ≤ length file → headIs file (positionAt z p) (payloadLength z) 2 ≡ true → length file < positionAt z p + recordLength z → nextOf z file p ≡ Cut
+  unfolding nextOf
+  cut-at a h b = rw (le-ltb (length file) (positionAt z p + 6) a, h, lt-ltb (length file) (positionAt z p + recordLength z) b)
+
+  pub whole-at : headIs file (positionAt z p) (payloadLength z) 2 ≡ true → positionAt z p + recordLength z ≤ length file → nextOf z file p ≡ Whole
+  unfolding nextOf
+  whole-at h b =
+      let a : positionAt z p + 6 ≤ length file = omega arith in
+      rw (le-ltb (length file) (positionAt z p + 6) a, h, le-ltb (length file) (positionAt z p + recordLength z) b)
+
+-- ---- the walk to a place where it stops
+
+-- the walk stops behind k positions: there are fewer than six bytes, or a cut record that is not the 2,049th
+abbrev Stops : Sizes → List ℕ → ℕ → Type 0
+Stops z file k = (nextOf z file k ≡ Ended) ⊎ ((nextOf z file k ≡ Cut) × (k < mostPositions))
+
+-- a whole record without fault
+abbrev Sound : Sizes → List ℕ → ℕ → Type 0
+Sound z file q = (nextOf z file q ≡ Whole) × (positionFault z file q ≡ false)
+
+module _ (z : Sizes) (file : List ℕ) (k : ℕ) where
+  stops-here : Stops z file k → (more : ℕ) → k + more ≡ mostPositions → walkFrom z file more k ≡ SessionRead z k
+  unfolding walkFrom
+  stops-here (inl e) zero m = ap (atMost z k) e
+  stops-here (inl e) (suc more) m = ap (λ (x : Next). onward z k x (positionFault z file k) (walkFrom z file more (suc k))) e
+  stops-here (inr e) zero m = absurd (omega (arith, e .1))
+  stops-here (inr e) (suc more) m = ap (λ (x : Next). onward z k x (positionFault z file k) (walkFrom z file more (suc k))) (e .0)
+
+  walk-to : k ≤ mostPositions → Stops z file k → ((q : ℕ) → q < k → Sound z file q) → (d p more : ℕ) → p + d ≡ k → p + more ≡ mostPositions → walkFrom z file more p ≡ SessionRead z k
+  unfolding walkFrom
+  walk-to l stop each zero p more e m = let f : k ≡ p = omega arith in subst (λ (x : ℕ). walkFrom z file more x ≡ SessionRead z k) f (stops-here stop more (omega arith))
+  walk-to l stop each (suc d) p zero e m = absurd (omega arith)
+  walk-to l stop each (suc d) p (suc more) e m =
+      let s = each p (omega arith) in
+      (λ i. onward z p (s .0 i) (s .1 i) (walkFrom z file more (suc p)))
+      ∙ walk-to l stop each d (suc p) more (omega arith) (omega arith)
+
+-- a file with a right first record whose walk stops behind k sound positions
+pub read-as : (z : Sizes) (file : List ℕ) (k : ℕ) → firstWhole file ≡ true → z ≡ sizesAt file → sizesHold z ≡ true → k ≤ mostPositions → Stops z file k → ((q : ℕ) → q < k → Sound z file q)
+    → readOf file ≡ SessionRead z k
+unfolding readOf
+read-as z file k f s h l stop each =
+    (λ i. cond (f i) (cond (sizesHold (sizesAt file)) (walkFrom (sizesAt file) file mostPositions 0) (Refused Limits)) (Refused (Record 0)))
+    ∙ (λ i. cond (sizesHold (sym s i)) (walkFrom (sym s i) file mostPositions 0) (Refused Limits))
+    ∙ (λ i. cond (h i) (walkFrom z file mostPositions 0) (Refused Limits))
+    ∙ walk-to z file k l stop each k 0 mostPositions (omega arith) (omega arith)
+
+-- ---- a cut of a file in which positions stand
+
+-- a whole first record has the right head
+pub first→head : (file : List ℕ) → firstWhole file ≡ true → headIs file 0 8 1 ≡ true
+first→head file f = second (leb 14 (length file)) (headIs file 0 8 1) f
+  where
+    second : (a b : Bool) → (a && b) ≡ true → b ≡ true
+    second true b e = e
+    second false b e = absurd (true≢false (sym e))
+
+module _ (file : List ℕ) (z : Sizes) (c : ℕ) (inside : c ≤ length file) where
+  long : length (take c file) ≡ c
+  long = length-take-le c file inside
+
+  first-kept : 14 ≤ c → firstWhole file ≡ true → firstWhole (take c file) ≡ true
+  first-kept l f =
+      (λ i. leb 14 (long i) && headIs-take c 0 8 1 file (omega arith) i)
+      ∙ (λ i. le-leb 14 c l i && headIs file 0 8 1)
+      ∙ first→head file f
+
+  pub sizes-kept : 14 ≤ c → sizesAt (take c file) ≡ sizesAt file
+  sizes-kept l = λ i. record {
+    batches = u16At-take c 6 file (omega arith) i;
+    kvheads = u16At-take c 8 file (omega arith) i;
+    size = u16At-take c 10 file (omega arith) i;
+    vsize = u16At-take c 12 file (omega arith) i;
+  }
+
+  pub fault-kept : (p : ℕ) → positionAt z p + recordLength z ≤ c → positionFault z (take c file) p ≡ positionFault z file p
+  unfolding positionFault
+  fault-kept p l =
+      let from = positionAt z p + 6 in
+      let w = z .size + z .vsize in
+      let all : rowsOf z * w * 4 ≡ payloadLength z = mul-assoc (rowsOf z) w 4 in
+      ap (ltb 0) (number-ext (payloadFault (take c file) from) (payloadFault file from) (rowsOf z * w) (λ i h. ap elementFault (f32At-take c (from + i * 4) file (omega arith))))
+
+  -- the positions that end before the cut stand in what is left
+  pub standing-cut : (n k : ℕ) → 14 ≤ c → Standing file z n → k ≤ n → positionAt z k ≤ c → Standing (take c file) z k
+  standing-cut n k l s h e = record {
+    first = first-kept l (s .first);
+    sizes = s .sizes ∙ sym (sizes-kept l);
+    limits = s .limits;
+    most = omega (arith, s .most);
+    inside = omega (arith, long);
+    heads = λ p q. let a = record-end z p k q in headIs-take c (positionAt z p) (payloadLength z) 2 file (omega arith) ∙ s .heads p (omega arith);
+    sound = λ p q. let a = record-end z p k q in fault-kept p (omega arith) ∙ s .sound p (omega arith);
+  }
+
+-- ---- the reader
+
+-- a file that ends with its last position, or within the record behind it
+pub standing→read : (file : List ℕ) (z : Sizes) (k : ℕ) → Standing file z k → Stops z file k → readOf file ≡ SessionRead z k
+standing→read file z k s stop =
+    read-as z file k (s .first) (s .sizes) (s .limits) (s .most) stop (λ q l. let a = record-end z q k l in (whole-at z file q (s .heads q l) (omega (arith, s .inside)), s .sound q l))
+
+-- the number of records that are whole before byte c
+pub whole-records : (z : Sizes) (c : ℕ) → 14 ≤ c → (positionAt z ((c - 14) / recordLength z) ≤ c) × (c < positionAt z ((c - 14) / recordLength z) + recordLength z)
+whole-records z c l =
+    let k = (c - 14) / recordLength z in
+    let some : 0 < recordLength z = omega arith in
+    let e = div-add-mod' (c - 14) (recordLength z) in
+    let r = mod-lt (c - 14) some in
+    (omega arith, omega arith)
+
+pub cut→read : (file : List ℕ) (z : Sizes) (n c : ℕ) → Standing file z n → 14 ≤ c → c ≤ positionAt z n → readOf (take c file) ≡ SessionRead z ((c - 14) / recordLength z)
+cut→read file z n c s l h = standing→read (take c file) z k kept (stop (decLt c (positionAt z k + 6)))
+  where
+    k : ℕ
+    k = (c - 14) / recordLength z
+
+    inside : c ≤ length file
+    inside = omega (arith, s .inside)
+
+    -- no more are whole than stand
+    fewer : Dec (n < k) → k ≤ n
+    fewer (yes a) = absurd (omega (arith, record-end z n k a, whole-records z c l .0))
+    fewer (no a) = omega arith
+
+    kept : Standing (take c file) z k
+    kept = standing-cut file z c inside n k l s (fewer (decLt n k)) (whole-records z c l .0)
+
+    before : Dec (k < n) → positionAt z k + 6 ≤ c → k < n
+    before (yes a) b = a
+    before (no a) b = let m : n ≡ k = omega (arith, fewer (decLt n k)) in absurd (omega (arith, ap (positionAt z) m))
+
+    stop : Dec (c < positionAt z k + 6) → Stops z (take c file) k
+    stop (yes a) = inl (ended-at z (take c file) k (omega (arith, long file z c inside)))
+    stop (no a) =
+        let b = before (decLt k n) (omega arith) in
+        let m = long file z c inside in
+        inr (cut-at z (take c file) k (omega arith) (headIs-take c (positionAt z k) (payloadLength z) 2 file (omega arith) ∙ s .heads k b) (omega (arith, whole-records z c l .1)), omega (arith, s .most))
+
+-- without the whole first record a file is refused at byte 0
+pub first-missing : (file : List ℕ) → length file < 14 → readOf file ≡ Refused (Record 0)
+unfolding readOf
+first-missing file l = rw (lt-leb 14 (length file) l)

@@ -1,0 +1,9 @@
+pub mod Caches
+pub mod Cuts
+pub mod Given
+pub mod Stands
+pub mod Files
+pub mod Saved
+pub mod Passed
+pub mod Appended
+pub mod Kept

@@ -1,0 +1,55 @@
+-- What is promised of saved sessions. Definitions only.
+use mathlib.Core.Path.{_≡_}
+use mathlib.Core.List.{List}
+use Prim.Native.Nat.{ℕ, _+_, _-_, _/_, _≤_, _<_}
+use lib.Dec.{T}
+use lib.Ieee.{Float, nan, binary32, fits}
+use lib.ListN.{length, getD, take, drop}
+use Rattle.session_file.specs.declared.Sizes.{Sizes}
+use Rattle.session_file.specs.declared.Refusal.the-variants.{Record}
+use Rattle.session_file.specs.declared.Reading.the-variants.{Session as SessionRead, Refused}
+use Rattle.session_file.specs.Sizes.{recordLength, positionAt}
+use Rattle.session_file.specs.Form.{Session, sessionOf, fileOf}
+use Rattle.session_file.specs.Reader.{readOf, sessionAt}
+use Rattle.session_laws.specs.Sessions.{Savable, firstOf, bothOf}
+
+-- the number of positions that are whole before byte c of a file of those sizes
+abbrev pub wholeIn : Sizes → ℕ → ℕ
+wholeIn z c = (c - 14) / recordLength z
+
+-- A file that is read as n positions of sizes z gives them within every limit. Cut after byte c, it is refused at byte 0 where that is in the first record, and has exactly the positions that are whole in it otherwise.
+pub record ReadHolds (file : List ℕ) (z : Sizes) (n : ℕ) : Type 0 where
+  pub within : Savable (sessionAt z file n)
+  pub missing : (c : ℕ) → c < 14 → readOf (take c file) ≡ Refused (Record 0)
+  pub cut : (c : ℕ) → 14 ≤ c → c ≤ positionAt z n → readOf (take c file) ≡ SessionRead z (wholeIn z c)
+  pub same : (c : ℕ) → 14 ≤ c → c ≤ positionAt z n → sessionAt z (take c file) (wholeIn z c) ≡ firstOf (sessionAt z file n) (wholeIn z c)
+
+-- The file of a session is read as that session, and every cut of it as those of its positions that are whole.
+pub record SavedHolds (s : Session) : Type 0 where
+  pub long : length (fileOf s) ≡ positionAt (s .sizes) (s .positions)
+  pub reads : readOf (fileOf s) ≡ SessionRead (s .sizes) (s .positions)
+  pub same : sessionAt (s .sizes) (fileOf s) (s .positions) ≡ s
+  pub missing : (c : ℕ) → c < 14 → readOf (take c (fileOf s)) ≡ Refused (Record 0)
+  pub cut : (c : ℕ) → 14 ≤ c → c ≤ length (fileOf s) → readOf (take c (fileOf s)) ≡ SessionRead (s .sizes) (wholeIn (s .sizes) c)
+  pub first : (c : ℕ) → 14 ≤ c → c ≤ length (fileOf s) → sessionAt (s .sizes) (take c (fileOf s)) (wholeIn (s .sizes) c) ≡ firstOf s (wholeIn (s .sizes) c)
+
+-- every element is an f32
+abbrev pub AllFit : List Float → Type 0
+AllFit cache = (i : ℕ) → i < length cache → T (fits binary32 (getD cache i nan))
+
+-- What holds where a writer was lent a buffer of which a file has the first `used` bytes, and positions to add, and says that m positions are saved in u bytes of the buffer that it left.
+pub record AppendHolds (buffer : List ℕ) (used count : ℕ) (keys values : List Float) (m u : ℕ) (left : List ℕ) : Type 0 where
+  -- the file was read as n positions of sizes z
+  pub z : Sizes
+  pub n : ℕ
+  pub file : readOf (take used buffer) ≡ SessionRead z n
+  pub total : m ≡ n + count
+  pub end : u ≡ positionAt z m
+  -- the last byte of the last one stands in the buffer, which is as long as before, and the same behind it
+  pub inside : u ≤ length left
+  pub behind : drop u left ≡ drop u buffer
+  -- without what is behind it the reader gives m positions: those of the file, and then those that were added
+  pub reads : readOf (take u left) ≡ SessionRead z m
+  pub session : sessionAt z (take u left) m ≡ bothOf (sessionAt z (take used buffer) n) (sessionOf z count keys values)
+  -- and after any cut those that are whole
+  pub cut : (c : ℕ) → 14 ≤ c → c ≤ u → readOf (take c left) ≡ SessionRead z (wholeIn z c)

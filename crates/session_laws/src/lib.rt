@@ -1,0 +1,1 @@
+// What reading and writing saved sessions promises. Definitions and theorems, no functions.
