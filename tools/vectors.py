@@ -3,8 +3,8 @@
     python3 tools/vectors.py vectors    crates/examples/proofs/Vectors.antt: random calls with their outcomes and scores
                                         under caps, as claims
     python3 tools/vectors.py dots       crates/softmax/proofs/DotExamples.antt: dot products, as claims
-    python3 tools/vectors.py examples   crates/entry_examples/stdout: the calls of entry_examples.py with their outcomes
-    python3 tools/vectors.py refusals   crates/refusal_examples/stdout: its refused calls
+    python3 tools/vectors.py calls      crates/call_examples/stdin: the calls of call_examples.py
+    python3 tools/vectors.py examples   crates/call_examples/stdout: their outcomes
 """
 
 import math
@@ -14,7 +14,7 @@ import textwrap
 from dataclasses import replace
 from itertools import product
 
-import entry_examples
+import call_examples
 from calls import (INFINITY, LARGEST, LEAST, Inputs, Outputs, Record, call, f32, from_bits, full_mask_dims, input_lengths,
                    lengths, output_lengths, to_bits)
 
@@ -540,7 +540,7 @@ def vectors(seed=242):
 
 
 if __name__ == "__main__":
-    commands = {"vectors": vectors, "dots": dots, "examples": entry_examples.print_lines, "refusals": entry_examples.print_refusals}
+    commands = {"vectors": vectors, "dots": dots, "calls": call_examples.print_calls, "examples": call_examples.print_lines}
     if len(sys.argv) != 2 or sys.argv[1] not in commands:
         sys.exit(__doc__)
     commands[sys.argv[1]]()

@@ -31,7 +31,8 @@ use Rattle.attention.proofs.Bounded.{MaskFits, admitted-finite}
 use Rattle.row_steps.specs.Steps.{visibleOf, maskStart, maskedBy, maskedRowBy, showsOf, paddedTo, shownWhere, SoftmaxDone}
 use Rattle.admitted_sum.specs.Sums.{admittedBy, addedRowOf}
 use Rattle.row_steps.proofs.Masked.{masked-tabulated}
-use Rattle.rows.specs.Unit.{shownAt, Accepting, ScoresDone, RowDone}
+use Rattle.row_runs.specs.Runs.{ScoresDone}
+use Rattle.rows.specs.Unit.{shownAt, Accepting, RowDone}
 use Rattle.rows.proofs.Seen.{visible, visible-live, visible-total, marked}
 use Rattle.rows.proofs.Row.{maskedMarks, marks, marks-scores, marks-masked, marks-weights, marks-output, shown-steps}
 use Rattle.rows.proofs.Ready.{accepts}

@@ -1,6 +1,5 @@
 pub mod Seen
 pub mod Row
-pub mod Runs
 pub mod Ready
 pub mod Assembled
 pub mod UnitRows

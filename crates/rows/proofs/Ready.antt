@@ -27,7 +27,8 @@ use Rattle.caches.proofs.Lengths.{past-length}
 use Rattle.row_steps.specs.Steps.{maskStart, maskRowFits}
 use Rattle.admitted_sum.specs.Sums.{maskHas}
 use Rattle.row_steps.proofs.Masked.{repeated-full}
-use Rattle.rows.specs.Unit.{Accepting, RunFits}
+use Rattle.row_runs.specs.Runs.{RunFits}
+use Rattle.rows.specs.Unit.{Accepting}
 use Rattle.rows.proofs.Seen.{index-from-start}
 
 module _ {c : Call} {x : Inputs} {scale : Float} (r : Accepting c x scale) where

@@ -1,10 +1,9 @@
 -- The unit of work: the rows of one query head from `first` for `count`. What is asked of its caller, which rows it writes, and what is shown of a row. Definitions only.
 use mathlib.Core.Path.{_≡_}
-use mathlib.Core.Bool.{Bool, true, _&&_}
-use mathlib.Core.List.{List, _++_}
-use Prim.Native.Nat.{ℕ, _+_, _-_, _*_, _≤_, _<_}
+use mathlib.Core.Bool.{Bool, _&&_}
+use mathlib.Core.List.{List}
+use Prim.Native.Nat.{ℕ, _+_, _-_}
 use lib.Dec.{eqb, leb, ltb}
-use lib.ListN.{drop}
 use lib.Ieee.{Float, nan}
 use Rattle.tensor_laws.specs.Layout.{tabulate, writtenOf}
 use Rattle.exponential.specs.ExpNeg.{plusZero}
@@ -12,13 +11,12 @@ use Rattle.call.specs.declared.Call.{Call}
 use Rattle.call.specs.declared.ScoreMode.{ScoreMode}
 use Rattle.call.specs.declared.ScoreMode.the-variants.{NoScores, Mode}
 use Rattle.call.specs.declared.Verdict.the-variants.{Accepted}
-use Rattle.call.specs.Limits.{totalOf, limitsHold}
+use Rattle.call.specs.Limits.{totalOf}
 use Rattle.call.specs.Lengths.{inScores}
 use Rattle.call.specs.Tensors.{Inputs, Outputs}
 use Rattle.call.specs.Refusals.{verdictOf}
 use Rattle.attention.specs.Formula.{effectiveScale, attentionOutput, attentionWeight, rowMasked, shownScore}
 use Rattle.attention.specs.Outcomes.{countWhere}
-use Rattle.row_steps.specs.Steps.{shownWhere}
 
 -- what is shown of row (b, h, i) at key j; without a mode the scores are empty
 abbrev pub shownAt : ScoreMode → Call → Inputs → (b h i j : ℕ) → Float
@@ -37,30 +35,7 @@ pub record Accepting (c : Call) (x : Inputs) (scale : Float) : Type 0 where
   pub accepted : verdictOf c x lent ≡ Accepted
   pub scale-is : scale ≡ effectiveScale c
 
--- r is the smaller of a and b
-pub record Smaller (a b r : ℕ) : Type 0 where
-  pub first : r ≤ a
-  pub second : r ≤ b
-  pub reached : r < b → r ≡ a
-
--- the positions of key head g in batch b from `from` for `count` stand in one of the two tensors, whose lengths are given
-pub record RunFits (c : Call) (pastLength incomingLength size b g from count : ℕ) : Type 0 where
-  pub limits : limitsHold c ≡ true
-  pub size-some : 1 ≤ size
-  pub size-most : size ≤ 256
-  pub past-length : pastLength ≡ c .batches * c .kvheads * c .past * size
-  pub incoming-length : incomingLength ≡ c .batches * c .kvheads * c .klen * size
-  pub batch : b < c .batches
-  pub head : g < c .kvheads
-  pub together : from < c .past → from + count ≤ c .past
-  pub inside : from + count ≤ totalOf c
-
 -- ---- what is left
-
--- step 1 leaves the scores of the first m positions in the scratch row, the rest of it as it was, and shows them, +0 behind, where `dots` holds
-pub record ScoresDone (m : ℕ) (score : ℕ → Float) (dots : Bool) (shown₀ work₀ shown work : List Float) : Type 0 where
-  pub scores : work ≡ tabulate m score ++ drop m work₀
-  pub shows : shown ≡ shownWhere dots plusZero (tabulate m score) shown₀
 
 -- the output, the shown scores, the weights and the mark of row (b, h, i)
 pub record RowDone (c : Call) (x : Inputs) (b h i : ℕ) (out shown work : List Float) (masked : Bool) : Type 0 where

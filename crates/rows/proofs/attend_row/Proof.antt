@@ -20,7 +20,8 @@ use Rattle.softmax.specs.Lists.{elementOf}
 use Rattle.row_steps.specs.Steps.{visibleOf, maskStart, maskRowFits}
 use Rattle.admitted_sum.specs.Sums.{maskHas}
 use Rattle.row_steps.proofs.Shown.{shows-room}
-use Rattle.rows.specs.Unit.{Accepting, RunFits}
+use Rattle.row_runs.specs.Runs.{RunFits}
+use Rattle.rows.specs.Unit.{Accepting}
 use Rattle.rows.proofs.Ready.{accepts, limits, lengths, group-some, query-row-fits, query-row-end, key-run, value-run, mask-has, mask-row-fits, mask-start-small}
 use Rattle.rows.proofs.Assembled.{query-row, n-total, m-total, capped-scores, row-done}
 use Rattle.rows.proofs.attend_row.Statement.{statement}

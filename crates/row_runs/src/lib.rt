@@ -1,0 +1,206 @@
+// The runs of positions of a row: its scores, and its weighted sum under the mask, each over the past cache's positions and then the incoming tensor's.
+ghost use mathlib.Core.Path.{_≡_};
+ghost use mathlib.Core.Bool.{true};
+ghost use Prim.Native.Nat.{ℕ, _+_, _≤_, _<_};
+ghost use lib.ListN.{length, replicate};
+ghost use Rattle.exponential.specs.ExpNeg.{plusZero};
+ghost use Rattle.tensor_laws.specs.Layout.{tabulate};
+ghost use Rattle.softmax.specs.Row.{scoreOf};
+ghost use Rattle.softmax.specs.Lists.{elementOf};
+ghost use Rattle.call.specs.Limits.{totalOf};
+ghost use Rattle.attention.specs.Elements.{positionCell};
+ghost use Rattle.attention.specs.Admission.{repeated};
+ghost use Rattle.admitted_sum.specs.Sums.{maskHas, admittedBy, addedRowOf};
+ghost use Rattle.row_runs.specs.Runs.{Smaller, ScoresDone, RunFits};
+use call::Call;
+
+// ---- the scores of a row
+
+// The smaller of two numbers.
+fn smaller(a: usize, b: usize) -> usize
+    ensures { λ r. ⌜ Smaller a b r ⌝ }
+{
+    if a < b { a } else { b }
+}
+
+// The scores of the positions from `from` on, as many as the row has elements, all in one of the two tensors.
+fn score_run<'a>(
+    call: Call,
+    scale: f32,
+    q: &[f32],
+    past: &'a [f32],
+    incoming: &'a [f32],
+    b: usize,
+    g: usize,
+    from: usize,
+    row: &mut [f32],
+)
+    requires { ⌜ length (now q) ≡ call .size ⌝ }
+    requires { ⌜ RunFits call (length (now past)) (length (now incoming)) (call .size) b g from (length (now row)) ⌝ }
+    ensures { λ _. ⌜ now (row .exit) ≡ tabulate (length (now (row .entry))) (λ j. scoreOf (call .size) (elementOf (now (q .entry))) (positionCell call (now (past .entry)) (now (incoming .entry)) (call .size) b g (from + j)) scale) ⌝ }
+{
+    if row.len() == 0 {
+        return;
+    }
+    let size = call.size;
+    let keys = caches::rows_from(call, past, incoming, size, b, g, from);
+    let stride = caches::row_stride(call, size, from);
+    scores::score_rows(q, keys, stride, scale, row);
+}
+
+// The scores of the positions from 0 on, as many as the row has elements: those of the past cache, then those of the incoming tensor.
+fn score_positions<'a>(
+    call: Call,
+    scale: f32,
+    q: &[f32],
+    past: &'a [f32],
+    incoming: &'a [f32],
+    b: usize,
+    g: usize,
+    row: &mut [f32],
+)
+    requires { ⌜ length (now q) ≡ call .size ⌝ }
+    requires { ⌜ RunFits call (length (now past)) (length (now incoming)) (call .size) b g (call .past) 0 ⌝ }
+    requires { ⌜ length (now row) ≤ totalOf call ⌝ }
+    ensures { λ _. ⌜ now (row .exit) ≡ tabulate (length (now (row .entry))) (λ j. scoreOf (call .size) (elementOf (now (q .entry))) (positionCell call (now (past .entry)) (now (incoming .entry)) (call .size) b g j) scale) ⌝ }
+{
+    let cut = smaller(call.past, row.len());
+    score_run(call, scale, q, past, incoming, b, g, 0, &mut row[..cut]);
+    score_run(call, scale, q, past, incoming, b, g, cut, &mut row[cut..]);
+}
+
+// Step 1 on a scratch row: the scores of the first m positions, shown where `dots` holds.
+pub fn score_row<'a>(
+    call: Call,
+    scale: f32,
+    q: &[f32],
+    past: &'a [f32],
+    incoming: &'a [f32],
+    b: usize,
+    g: usize,
+    dots: bool,
+    m: usize,
+    shown: &mut [f32],
+    work: &mut [f32],
+)
+    requires { ⌜ length (now q) ≡ call .size ⌝ }
+    requires { ⌜ RunFits call (length (now past)) (length (now incoming)) (call .size) b g (call .past) 0 ⌝ }
+    requires { ⌜ (m ≤ totalOf call) × (m ≤ length (now work)) × ((dots ≡ true) → m ≤ length (now shown)) ⌝ }
+    ensures { λ _. ⌜ ScoresDone m (λ j. scoreOf (call .size) (elementOf (now (q .entry))) (positionCell call (now (past .entry)) (now (incoming .entry)) (call .size) b g j) scale) dots (now (shown .entry)) (now (work .entry)) (now (shown .exit)) (now (work .exit)) ⌝ }
+{
+    score_positions(call, scale, q, past, incoming, b, g, &mut work[..m]);
+    row_steps::show(dots, &work[..m], 0.0, shown);
+}
+
+// ---- the weighted sum of a row
+
+// The output row with the weighted values of the admitted positions from `from` on added, as many as there are weights, all in one of the two tensors.
+fn weigh_run<'a>(
+    call: Call,
+    bytes: &[u8],
+    cells: &[f32],
+    at: usize,
+    past: &'a [f32],
+    incoming: &'a [f32],
+    b: usize,
+    g: usize,
+    from: usize,
+    weights: &[f32],
+    out: &mut [f32],
+)
+    requires { ⌜ length (now out) ≡ call .vsize ⌝ }
+    requires { ⌜ RunFits call (length (now past)) (length (now incoming)) (call .vsize) b g from (length (now weights)) ⌝ }
+    requires { ⌜ (at + from + length (now weights) < 0x100000000) × ((k : ℕ) → k < from + length (now weights) → maskHas (call .mask) (length (now bytes)) (length (now cells)) (at + repeated (call .maskk) k)) ⌝ }
+    ensures { λ _. ⌜ now (out .exit) ≡ addedRowOf (length (now (weights .entry))) (λ j. admittedBy (call .mask) (now (bytes .entry)) (now (cells .entry)) (at + repeated (call .maskk) (from + j))) (elementOf (now (weights .entry))) (λ j k. positionCell call (now (past .entry)) (now (incoming .entry)) (call .vsize) b g (from + j) k) (now (out .entry)) ⌝ }
+{
+    if weights.len() == 0 {
+        return;
+    }
+    let size = call.vsize;
+    let kind = call.mask;
+    let values = caches::rows_from(call, past, incoming, size, b, g, from);
+    let stride = caches::row_stride(call, size, from);
+    admitted_sum::weigh_admitted(
+        kind,
+        bytes,
+        cells,
+        at,
+        call.maskk,
+        from,
+        weights,
+        values,
+        stride,
+        out,
+    );
+}
+
+// The output row with the weighted values of the admitted positions from 0 on added, as many as there are weights: those of the past cache, then those of the incoming tensor.
+fn weigh_positions<'a>(
+    call: Call,
+    bytes: &[u8],
+    cells: &[f32],
+    at: usize,
+    past: &'a [f32],
+    incoming: &'a [f32],
+    b: usize,
+    g: usize,
+    weights: &[f32],
+    out: &mut [f32],
+)
+    requires { ⌜ length (now out) ≡ call .vsize ⌝ }
+    requires { ⌜ RunFits call (length (now past)) (length (now incoming)) (call .vsize) b g (call .past) 0 ⌝ }
+    requires { ⌜ length (now weights) ≤ totalOf call ⌝ }
+    requires { ⌜ (at + length (now weights) < 0x100000000) × ((k : ℕ) → k < length (now weights) → maskHas (call .mask) (length (now bytes)) (length (now cells)) (at + repeated (call .maskk) k)) ⌝ }
+    ensures { λ _. ⌜ now (out .exit) ≡ addedRowOf (length (now (weights .entry))) (λ j. admittedBy (call .mask) (now (bytes .entry)) (now (cells .entry)) (at + repeated (call .maskk) j)) (elementOf (now (weights .entry))) (λ j k. positionCell call (now (past .entry)) (now (incoming .entry)) (call .vsize) b g j k) (now (out .entry)) ⌝ }
+{
+    let cut = smaller(call.past, weights.len());
+    weigh_run(
+        call,
+        bytes,
+        cells,
+        at,
+        past,
+        incoming,
+        b,
+        g,
+        0,
+        &weights[..cut],
+        out,
+    );
+    weigh_run(
+        call,
+        bytes,
+        cells,
+        at,
+        past,
+        incoming,
+        b,
+        g,
+        cut,
+        &weights[cut..],
+        out,
+    );
+}
+
+// The output row: from +0, the weighted values of the admitted positions from 0 on, as many as there are weights.
+pub fn output_row<'a>(
+    call: Call,
+    bytes: &[u8],
+    cells: &[f32],
+    at: usize,
+    past: &'a [f32],
+    incoming: &'a [f32],
+    b: usize,
+    g: usize,
+    weights: &[f32],
+    out: &mut [f32],
+)
+    requires { ⌜ length (now out) ≡ call .vsize ⌝ }
+    requires { ⌜ RunFits call (length (now past)) (length (now incoming)) (call .vsize) b g (call .past) 0 ⌝ }
+    requires { ⌜ length (now weights) ≤ totalOf call ⌝ }
+    requires { ⌜ (at + length (now weights) < 0x100000000) × ((k : ℕ) → k < length (now weights) → maskHas (call .mask) (length (now bytes)) (length (now cells)) (at + repeated (call .maskk) k)) ⌝ }
+    ensures { λ _. ⌜ now (out .exit) ≡ addedRowOf (length (now (weights .entry))) (λ j. admittedBy (call .mask) (now (bytes .entry)) (now (cells .entry)) (at + repeated (call .maskk) j)) (elementOf (now (weights .entry))) (λ j k. positionCell call (now (past .entry)) (now (incoming .entry)) (call .vsize) b g j k) (replicate (call .vsize) plusZero) ⌝ }
+{
+    softmax::fill_row(out, 0.0);
+    weigh_positions(call, bytes, cells, at, past, incoming, b, g, weights, out);
+}
