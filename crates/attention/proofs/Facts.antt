@@ -16,10 +16,10 @@ use Rattle.float_laws.proofs.Order.{lt→le, le-trans}
 use Rattle.tensor_laws.specs.Layout.{slot, batchAt, positionAt}
 use Rattle.tensor_laws.proofs.Slots.{batch-slot, position-slot, left-factor-pos}
 use Rattle.tensor_laws.proofs.Cells.{index-lt}
-use Rattle.exponential.specs.declared.DefaultScale.{DefaultScale}
+use Rattle.tables.specs.declared.DefaultScale.{DefaultScale}
+use Rattle.tables.specs.Scale.{defaultScaleOf}
+use Rattle.tables.proofs.Scale.{default-scale-bounds}
 use Rattle.exponential.specs.ExpNeg.{plusZero, one}
-use Rattle.exponential.specs.Scale.{defaultScaleOf}
-use Rattle.exponential.proofs.Scale.{default-scale-bounds}
 use Rattle.softmax.specs.Lists.{elementOf}
 use Rattle.softmax.proofs.Bounds.{bounded, elementBound, scaleBound}
 use Rattle.call.specs.declared.Call.{Call}

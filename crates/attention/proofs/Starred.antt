@@ -1,8 +1,8 @@
 -- The starred examples hold, by computation. Assumes nothing.
 use mathlib.Core.Path.{refl}
 use lib.Ieee.{mul}
+use Rattle.tables.specs.Scale.{defaultScaleOf}
 use Rattle.exponential.specs.ExpNeg.{scaledOf, expNegOf, log2e}
-use Rattle.exponential.specs.Scale.{defaultScaleOf}
 use Rattle.attention.specs.Outcomes.{attentionOf}
 use Rattle.attention.specs.Table.{AllHold, starredTable}
 

@@ -3,10 +3,10 @@ use Prim.Native.Nat.{ℕ, zero, suc}
 use mathlib.Core.Bool.{Bool, cond}
 use lib.Dec.{ltb}
 use lib.Ieee.{Float, binary32, add}
-use Rattle.exponential.specs.declared.DefaultScale.{DefaultScale}
-use Rattle.exponential.specs.declared.DefaultScale.the-variants.{Scale as DefaultIs, NoScale}
+use Rattle.tables.specs.declared.DefaultScale.{DefaultScale}
+use Rattle.tables.specs.declared.DefaultScale.the-variants.{Scale as DefaultIs, NoScale}
+use Rattle.tables.specs.Scale.{defaultScaleOf}
 use Rattle.exponential.specs.ExpNeg.{plusZero}
-use Rattle.exponential.specs.Scale.{defaultScaleOf}
 use Rattle.softmax.specs.Row.{scoreOf, fullyMaskedOf, weightOf, rowOutputOf}
 use Rattle.softmax.specs.Lists.{hidden}
 use Rattle.softmax.specs.Cap.{cappedWhere}

@@ -5,12 +5,12 @@ use Prim.Native.Nat.{ℕ}
 use mathlib.Core.Bool.{false}
 use lib.IntN.{negsuc}
 use lib.Ieee.{Float, fin, binary32, mul, ofBits}
+use Rattle.tables.specs.declared.DefaultScale.{DefaultScale}
+use Rattle.tables.specs.declared.DefaultScale.the-variants.{Scale}
+use Rattle.tables.specs.Scale.{defaultScaleOf}
 use Rattle.exponential.specs.declared.Exponential.{Exponential}
 use Rattle.exponential.specs.declared.Exponential.the-variants.{Value}
-use Rattle.exponential.specs.declared.DefaultScale.{DefaultScale}
-use Rattle.exponential.specs.declared.DefaultScale.the-variants.{Scale}
 use Rattle.exponential.specs.ExpNeg.{plusZero, one, limit, log2e, wholePartOf, scaledOf, expNegOf}
-use Rattle.exponential.specs.Scale.{defaultScaleOf}
 use Rattle.softmax.specs.Cap.{cappedWhere}
 use Rattle.call.specs.declared.Call.{Call}
 use Rattle.call.specs.declared.Form.the-variants.{Plain, Cached}

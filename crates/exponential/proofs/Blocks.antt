@@ -17,7 +17,7 @@ use Rattle.float_laws.proofs.Product.{mul-not-nan}
 use Rattle.tensor_laws.specs.Layout.{tabulate}
 use Rattle.tensor_laws.proofs.InPlace.{mappedTo}
 use Rattle.tensor_laws.proofs.Parts.{withPart}
-use Rattle.exponential.specs.Power.{powerOf}
+use Rattle.tables.specs.Power.{powerOf}
 use Rattle.exponential.specs.ExpNeg.{plusZero, limit, log2e, inRange, wholePartOf, restOf, polyOf, belowLimitOf, expNegOf, valueOrZero, expNegRowOf}
 use Rattle.exponential.specs.Blocks.{beyond, exponentOf, exponentsOf, Exponent, Exponents, polysOf, timesPower}
 use Rattle.exponential.proofs.Whole.{whole-in-range}

@@ -19,9 +19,9 @@ use Rattle.float_laws.proofs.Sum.{sub-mono, sub-plus}
 use Rattle.float_laws.proofs.Product.{mul-mono, mul-plus}
 use Rattle.float_laws.proofs.Exact.{dyadic-exact, Dyadic, dyadic}
 use Rattle.float_laws.proofs.Fraction.{mul-at}
-use Rattle.exponential.specs.Power.{powerOf}
+use Rattle.tables.specs.Power.{powerOf}
+use Rattle.tables.proofs.Power.{power-rule}
 use Rattle.exponential.specs.ExpNeg.{plusZero, one, c1, c2, halved, polyOf, restOf, wholePartOf, belowLimitOf}
-use Rattle.exponential.proofs.Power.{power-rule}
 use Rattle.exponential.proofs.Whole.{Ranged, whole-lt}
 use Rattle.exponential.proofs.Rest.{rest}
 

@@ -1,10 +1,8 @@
--- The examples G and H at the edges, about the definitions themselves, by computation. Assumes nothing.
+-- The example G at the edges, about the definition itself, by computation. Assumes nothing.
 use mathlib.Core.Path.{_≡_, refl}
 use mathlib.Core.Bool.{false}
 use lib.IntN.{negsuc}
 use lib.Ieee.{fin, binary32, ofBits}
-use Rattle.exponential.specs.declared.DefaultScale.the-variants.{Scale}
-use Rattle.exponential.specs.Scale.{defaultScaleOf}
 use Rattle.exponential.specs.ExpNeg.{plusZero, one, limit, belowLimitOf, scaledOf}
 
 -- G: y 0, 0.5, 1 and 120 give 1, the value with the bits 3F3504F3, 0.5 and +0
@@ -17,15 +15,3 @@ pub record ExampleG : Type 0 where
 pub example-G : ExampleG
 unfolding scaledOf belowLimitOf
 example-G = record { at-zero = refl; at-half = unfold ofBits in refl; at-one = refl; at-limit = refl }
-
--- H: the default scale for D 4, 16, 64 and 256 is 0.5, 0.25, 0.125 and 0.0625, and for D 2 it has the bits 3F3504F3
-pub record ExampleH : Type 0 where
-  pub at-4 : defaultScaleOf 4 ≡ Scale (fin false 1 (negsuc 0))
-  pub at-16 : defaultScaleOf 16 ≡ Scale (fin false 1 (negsuc 1))
-  pub at-64 : defaultScaleOf 64 ≡ Scale (fin false 1 (negsuc 2))
-  pub at-256 : defaultScaleOf 256 ≡ Scale (fin false 1 (negsuc 3))
-  pub at-2 : defaultScaleOf 2 ≡ Scale (ofBits binary32 0x3f3504f3)
-
-pub example-H : ExampleH
-unfolding defaultScaleOf ofBits
-example-H = record { at-4 = refl; at-16 = refl; at-64 = refl; at-256 = refl; at-2 = refl }

@@ -9,8 +9,8 @@ use lib.Dec.{T, eqb, eqb→eq}
 use lib.Ieee.{binary32, fits, ofBits, toBits, nanBits}
 use lib.Ieee.Bits.{ofBits-toBits}
 use lib.Ieee.Fits.{and-l, and-r}
+use Rattle.tables.proofs.Every.{three}
 use Rattle.exponential.specs.ExpNeg.{halved}
-use Rattle.exponential.proofs.Every.{three}
 
 abbrev pub halvedBits : ℕ → ℕ
 halvedBits k = (127 - k) * 8388608

@@ -1,6 +1,3 @@
-pub mod Every
-pub mod Power
-pub mod Scale
 pub mod Examples
 pub mod Whole
 pub mod Rest

@@ -8,7 +8,7 @@ use lib.Dec.{T}
 use lib.IntN.{pos}
 use lib.ListN.{length, getD}
 use lib.Ieee.{Float, nan, fin, binary32, sub, mul, le, lt, ofBits}
-use Rattle.exponential.specs.Power.{powerOf}
+use Rattle.tables.specs.Power.{powerOf}
 use Rattle.exponential.specs.ExpNeg.{plusZero, limit, log2e, inRange, restOf, polyOf}
 
 -- 127, which stands for every y at which E is +0: the steps give +0 there

@@ -4,9 +4,9 @@ use Prim.Native.Nat.{ℕ, _*_, _/_, _%_}
 use mathlib.Core.Bool.{Bool, false, _||_, _&&_, cond}
 use lib.IntN.{pos}
 use lib.Ieee.{Float, nan, inf, fin, binary32, up, down, minus, sub, mul, div, le, lt, isNan, ofInt, ofBits}
+use Rattle.tables.specs.Power.{powerOf}
 use Rattle.exponential.specs.declared.Exponential.{Exponential}
 use Rattle.exponential.specs.declared.Exponential.the-variants.{Value, NoValue}
-use Rattle.exponential.specs.Power.{powerOf}
 pub use Rattle.float_laws.specs.Zero.{plusZero}
 
 abbrev pub one : Float

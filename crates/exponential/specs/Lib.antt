@@ -1,4 +1,2 @@
-pub mod Power
-pub mod Scale
 pub mod ExpNeg
 pub mod Blocks

@@ -1,14 +1,12 @@
-// The house exponential E(d), near e^-d, with its power table, and the default scale 1 / √D of a head size D.
+// The house exponential E(d), near e^-d, by the power table, on one number and over a row.
 // Every function takes any arguments: an enum answers what has no value.
-mod table;
 
 ghost use mathlib.Core.Path.{_≡_};
 ghost use lib.Dec.{T};
 ghost use Prim.Native.Nat.{ℕ, _≤_, _<_};
 ghost use mathlib.Core.List.{map, zipWith};
 ghost use lib.ListN.{length, getD};
-ghost use Rattle.exponential.specs.Power.{powerBits, powerEntryOf};
-ghost use Rattle.exponential.specs.Scale.{defaultScaleOf};
+ghost use Rattle.tables.specs.Power.{powerBits};
 ghost use Rattle.exponential.specs.ExpNeg.{inRange, wholePartOf, restOf, polyOf, belowLimitOf, expNegOf, expNegRowOf};
 ghost use Rattle.exponential.specs.Blocks.{exponentOf, exponentsOf, Exponent, Exponents, polysOf, timesPower};
 
@@ -23,42 +21,6 @@ const C2: u32 = 0x3e75fdf0;
 pub enum Exponential {
     Value(f32),
     NoValue,
-}
-
-// The default scale of a head size from 1 to 256, and none of any other.
-pub enum DefaultScale {
-    Scale(f32),
-    NoScale,
-}
-
-// The entry of the power table at an index below 256, and none at any other.
-pub enum PowerEntry {
-    Entry(f32),
-    NoEntry,
-}
-
-pub fn power_entry(index: usize) -> PowerEntry
-    ensures { λ r. ⌜ r ≡ powerEntryOf index ⌝ }
-{
-    if index < 256 {
-        let powers = table::POWERS;
-        PowerEntry::Entry(f32::from_bits(powers[index]))
-    } else {
-        PowerEntry::NoEntry
-    }
-}
-
-pub fn default_scale(head_size: usize) -> DefaultScale
-    ensures { λ r. ⌜ r ≡ defaultScaleOf «head_size» ⌝ }
-{
-    if head_size < 1 {
-        return DefaultScale::NoScale;
-    }
-    if 256 < head_size {
-        return DefaultScale::NoScale;
-    }
-    let scales = table::SCALES;
-    DefaultScale::Scale(f32::from_bits(scales[head_size - 1]))
 }
 
 // The largest whole number not above 256 y.
@@ -104,7 +66,7 @@ fn exp_neg_by(powers: &[u32; 256], d: f32) -> Exponential
 pub fn exp_neg(d: f32) -> Exponential
     ensures { λ r. ⌜ r ≡ expNegOf d ⌝ }
 {
-    let powers = table::POWERS;
+    let powers = tables::table::POWERS;
     exp_neg_by(&powers, d)
 }
 
@@ -226,7 +188,7 @@ fn exp_block(powers: &[u32; 256], row: &mut [f32], largest: f32)
 pub fn exp_neg_row(row: &mut [f32], largest: f32)
     ensures { λ _. ⌜ now (row .exit) ≡ expNegRowOf largest (now (row .entry)) ⌝ }
 {
-    let powers = table::POWERS;
+    let powers = tables::table::POWERS;
     let n = row.len();
     let mut done = 0;
     while 64 <= n - done {

@@ -4,13 +4,13 @@ use lib.Ieee.{Float}
 use Rattle.call.specs.Answers.{Report, reportOf}
 use Rattle.call.specs.Tensors.{Outputs}
 use Rattle.attention.specs.Outcomes.{Outcome}
+use Rattle.tables.specs.declared.PowerEntry.{PowerEntry}
+use Rattle.tables.specs.declared.PowerEntry.the-variants.{Entry, NoEntry}
+use Rattle.tables.specs.declared.DefaultScale.{DefaultScale}
+use Rattle.tables.specs.declared.DefaultScale.the-variants.{Scale, NoScale}
 use Rattle.exponential.specs.ExpNeg.{plusZero}
 use Rattle.exponential.specs.declared.Exponential.{Exponential}
 use Rattle.exponential.specs.declared.Exponential.the-variants.{Value, NoValue}
-use Rattle.exponential.specs.declared.PowerEntry.{PowerEntry}
-use Rattle.exponential.specs.declared.PowerEntry.the-variants.{Entry, NoEntry}
-use Rattle.exponential.specs.declared.DefaultScale.{DefaultScale}
-use Rattle.exponential.specs.declared.DefaultScale.the-variants.{Scale, NoScale}
 
 -- ---- a call
 

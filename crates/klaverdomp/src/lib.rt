@@ -6,14 +6,14 @@ ghost use mathlib.Core.Path.{_≡_};
 ghost use Rattle.call.specs.Tensors.{inputsOf, outputsOf};
 ghost use Rattle.attention.specs.Outcomes.{attentionOf};
 ghost use Rattle.attention.specs.Entries.{stepInputs, stepOutputs, stepOf};
+ghost use Rattle.tables.specs.Power.{powerEntryOf};
+ghost use Rattle.tables.specs.Scale.{defaultScaleOf};
 ghost use Rattle.exponential.specs.ExpNeg.{expNegOf, expNegRowOf};
-ghost use Rattle.exponential.specs.Power.{powerEntryOf};
-ghost use Rattle.exponential.specs.Scale.{defaultScaleOf};
 ghost use Rattle.interface.specs.Record.{callOf};
 ghost use Rattle.klaverdomp.specs.Returned.{returned, returnedOf, told, exponentialTold, powerTold, scaleTold};
-use exponential::DefaultScale;
 use exponential::Exponential;
-use exponential::PowerEntry;
+use tables::DefaultScale;
+use tables::PowerEntry;
 
 // Attention. The result is 0 for done and else the number of the refusal; the four numbers behind it are always written.
 #[no_mangle]
@@ -139,7 +139,7 @@ pub extern "C" fn klaverdomp_exp_neg_row_1(row: &mut [f32], largest: f32)
 pub extern "C" fn klaverdomp_power_entry_1(index: u64, value: &mut f32) -> u32
     ensures { λ r. ⌜ told r (now (value .exit)) ≡ powerTold (powerEntryOf index) ⌝ }
 {
-    match exponential::power_entry(index as usize) {
+    match tables::power_entry(index as usize) {
         PowerEntry::Entry(x) => {
             *value = x;
             1
@@ -156,7 +156,7 @@ pub extern "C" fn klaverdomp_power_entry_1(index: u64, value: &mut f32) -> u32
 pub extern "C" fn klaverdomp_default_scale_1(size: u64, value: &mut f32) -> u32
     ensures { λ r. ⌜ told r (now (value .exit)) ≡ scaleTold (defaultScaleOf size) ⌝ }
 {
-    match exponential::default_scale(size as usize) {
+    match tables::default_scale(size as usize) {
         DefaultScale::Scale(x) => {
             *value = x;
             1

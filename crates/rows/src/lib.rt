@@ -13,7 +13,7 @@ ghost use Rattle.rows.specs.Unit.{Accepting, RowDone, HeadDone};
 use call::Call;
 use call::Scale;
 use call::ScoreMode;
-use exponential::DefaultScale;
+use tables::DefaultScale;
 
 // ---- once a call
 
@@ -25,7 +25,7 @@ pub fn effective_scale(call: Call) -> f32
     match scale {
         Scale::Given(x) => x,
         Scale::Absent => {
-            let default = exponential::default_scale(call.size);
+            let default = tables::default_scale(call.size);
             match default {
                 DefaultScale::Scale(x) => x,
                 DefaultScale::NoScale => 0.0,

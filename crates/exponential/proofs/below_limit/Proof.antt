@@ -10,10 +10,10 @@ use lib.ListN.{getD}
 use lib.IntN.{pos}
 use lib.Ieee.{Float, binary32, nanBits, inFloat, ofBits, ofInt, sub, mul, div}
 use denote.Floats.{passes}
+use Rattle.tables.specs.Power.{powerBits, powerOf}
+use Rattle.tables.proofs.Power.{power-not-nan}
 use Rattle.exponential.specs.ExpNeg.{wholePartOf, restOf, polyOf, belowLimitOf}
-use Rattle.exponential.specs.Power.{powerBits, powerOf}
 use Rattle.exponential.proofs.Whole.{cut-exact}
-use Rattle.exponential.proofs.Power.{power-not-nan}
 use Rattle.exponential.proofs.HalvedBits.{halved-bits, halved-not-nan}
 use borrow.Author.Needs.{needs}
 use Rattle.exponential.proofs.below_limit.Statement.{statement}

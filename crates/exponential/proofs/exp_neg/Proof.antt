@@ -1,7 +1,7 @@
 -- `exponential::exp_neg` meets its contract: the array that it binds is the table of the definition. Assumes nothing.
 use mathlib.Core.Path.{refl}
 use borrow.Author.Needs.{needs}
-use Rattle.exponential.specs.Power.{powerBits}
+use Rattle.tables.specs.Power.{powerBits}
 use Rattle.exponential.proofs.exp_neg.Statement.{statement}
 use Rattle.exponential.proofs.exp_neg.Tie as tie
 

@@ -10,7 +10,7 @@ use lib.Ieee.{Float, binary32, sub}
 use Rattle.tensor_laws.proofs.InPlace.{mappedTo, length-mappedTo, mapped-all}
 use Rattle.tensor_laws.proofs.Parts.{withPart, length-part as length-middle}
 use Rattle.tensor_laws.proofs.Tails.{partOf, length-part}
-use Rattle.exponential.specs.Power.{powerBits}
+use Rattle.tables.specs.Power.{powerBits}
 use Rattle.exponential.specs.ExpNeg.{expNegOf, expNegRowOf, valueOrZero}
 use Rattle.exponential.proofs.Blocks.{mapped-block}
 use Rattle.exponential.proofs.Laws.{length-row}

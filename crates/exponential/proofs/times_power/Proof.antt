@@ -8,9 +8,9 @@ use lib.Dec.{T}
 use lib.ListN.{getD}
 use lib.Ieee.{binary32, nanBits, ofBits, mul}
 use borrow.Author.Needs.{needs}
-use Rattle.exponential.specs.Power.{powerOf}
+use Rattle.tables.specs.Power.{powerOf}
+use Rattle.tables.proofs.Power.{power-not-nan}
 use Rattle.exponential.specs.Blocks.{timesPower}
-use Rattle.exponential.proofs.Power.{power-not-nan}
 use Rattle.exponential.proofs.Blocks.{not-nan-bits}
 use Rattle.exponential.proofs.times_power.Statement.{statement}
 use Rattle.exponential.proofs.times_power.Tie as tie

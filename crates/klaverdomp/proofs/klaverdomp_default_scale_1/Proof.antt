@@ -2,8 +2,8 @@
 use mathlib.Core.Path.{_≡_, sym, _∙_}
 use lib.Ieee.{ofBits}
 use borrow.Author.Needs.{needs}
-use Rattle.exponential.specs.Scale.{defaultScaleOf}
-use Rattle.exponential.specs.declared.DefaultScale.the-variants.{Scale, NoScale}
+use Rattle.tables.specs.Scale.{defaultScaleOf}
+use Rattle.tables.specs.declared.DefaultScale.the-variants.{Scale, NoScale}
 use Rattle.klaverdomp.proofs.klaverdomp_default_scale_1.Statement.{statement}
 use Rattle.klaverdomp.proofs.klaverdomp_default_scale_1.Tie as tie
 

@@ -2,8 +2,8 @@
 use mathlib.Core.Path.{_≡_, sym, _∙_}
 use lib.Ieee.{ofBits}
 use borrow.Author.Needs.{needs}
-use Rattle.exponential.specs.Power.{powerEntryOf}
-use Rattle.exponential.specs.declared.PowerEntry.the-variants.{Entry, NoEntry}
+use Rattle.tables.specs.Power.{powerEntryOf}
+use Rattle.tables.specs.declared.PowerEntry.the-variants.{Entry, NoEntry}
 use Rattle.klaverdomp.proofs.klaverdomp_power_entry_1.Statement.{statement}
 use Rattle.klaverdomp.proofs.klaverdomp_power_entry_1.Tie as tie
 

@@ -4,8 +4,8 @@ use Rattle.rows.proofs.effective_scale.Statement.{statement}
 use Rattle.rows.proofs.effective_scale.Tie as tie
 use mathlib.Core.Path.{_≡_, sym, _∙_}
 use lib.Ieee.{ofBits}
-use Rattle.exponential.specs.Scale.{defaultScaleOf}
-use Rattle.exponential.specs.declared.DefaultScale.the-variants.{Scale, NoScale}
+use Rattle.tables.specs.Scale.{defaultScaleOf}
+use Rattle.tables.specs.declared.DefaultScale.the-variants.{Scale, NoScale}
 use Rattle.attention.specs.Formula.{effectiveScale}
 
 enum-known-scale : tie.Need-enum-known-scale

@@ -1,10 +1,10 @@
--- `exponential::power_entry` meets its contract: the array is the table of the definition, and no entry is a NaN's bits. Assumes nothing.
+-- `tables::power_entry` meets its contract: the array is the table of the definition, and no entry is a NaN's bits. Assumes nothing.
 use borrow.Author.Needs.{needs}
 use borrow.Author.Tests.{lt-ltb, le-ltb}
-use Rattle.exponential.specs.Power.{powerBits, powerEntryOf}
-use Rattle.exponential.proofs.Power.{power-not-nan}
-use Rattle.exponential.proofs.power_entry.Statement.{statement}
-use Rattle.exponential.proofs.power_entry.Tie as tie
+use Rattle.tables.specs.Power.{powerBits, powerEntryOf}
+use Rattle.tables.proofs.Power.{power-not-nan}
+use Rattle.tables.proofs.power_entry.Statement.{statement}
+use Rattle.tables.proofs.power_entry.Tie as tie
 
 mul-t6 : tie.Need-mul-t6
 mul-t6 c = search needs

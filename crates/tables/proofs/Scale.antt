@@ -9,14 +9,15 @@ use mathlib.Core.Bool.{Bool, false, not, _&&_, cond}
 use lib.Dec.{T, leb, ltb, leb→le, le→leb, ltb→lt, not-T}
 use lib.Pow.{pow-add, pow-mono, pow-lt}
 use lib.ListN.{getD}
-use lib.Ieee.{Float, binary32, ofBits, nanBits, lt, le}
+use lib.IntN.{pos}
+use lib.Ieee.{Float, fin, binary32, ofBits, nanBits, lt, le}
 use lib.Ieee.Exact.{HasValue}
 use lib.Ieee.Fits.{and-i, and-l, and-r}
 use lib.Ieee.Bits.{is-true, is-false}
-use Rattle.exponential.specs.declared.DefaultScale.the-variants.{Scale, NoScale}
-use Rattle.exponential.specs.ExpNeg.{plusZero, one}
-use Rattle.exponential.specs.Scale.{ScaleRule, scaleBits, defaultScaleOf}
-use Rattle.exponential.proofs.Every.{every, at, isFraction, fraction→value, three, four}
+use Rattle.tables.specs.declared.DefaultScale.the-variants.{Scale, NoScale}
+use Rattle.float_laws.specs.Zero.{plusZero}
+use Rattle.tables.specs.Scale.{ScaleRule, scaleBits, defaultScaleOf}
+use Rattle.tables.proofs.Every.{every, at, isFraction, fraction→value, three, four}
 
 -- ---- the test: the bits of a scale stand for m * 2 ^ -x
 
@@ -155,6 +156,9 @@ default-scale D a b =
     back D a = omega arith
 
 -- ---- the size of a scale
+
+abbrev one : Float
+one = fin false 1 (pos 0)
 
 between : ℕ → ℕ → Bool
 between i b = lt plusZero (ofBits binary32 b) && le (ofBits binary32 b) one

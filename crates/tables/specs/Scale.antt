@@ -6,8 +6,8 @@ use mathlib.Core.Bool.{_&&_, cond}
 use lib.Dec.{leb}
 use lib.ListN.{getD}
 use lib.Ieee.{binary32, ofBits}
-use Rattle.exponential.specs.declared.DefaultScale.{DefaultScale}
-use Rattle.exponential.specs.declared.DefaultScale.the-variants.{Scale, NoScale}
+use Rattle.tables.specs.declared.DefaultScale.{DefaultScale}
+use Rattle.tables.specs.declared.DefaultScale.the-variants.{Scale, NoScale}
 
 -- m * 2 ^ -x is the f32 nearest to 1 / √D: m is whole, from 2 ^ 23 to below 2 ^ 24, and (2m - 1)² * D < 2 ^ (2x + 2) < (2m + 1)² * D
 pub record ScaleRule (D m x : ℕ) : Type 0 where

@@ -8,8 +8,8 @@ use lib.Dec.{T, leb, ltb, leb→le, ltb→lt}
 use lib.ListN.{getD}
 use lib.Ieee.{binary32, ofBits, nanBits}
 use lib.Ieee.Exact.{HasValue}
-use Rattle.exponential.specs.Power.{PowerRule, powerBits, powerOf}
-use Rattle.exponential.proofs.Every.{every, at, isFraction, fraction→value, three, four}
+use Rattle.tables.specs.Power.{PowerRule, powerBits, powerOf}
+use Rattle.tables.proofs.Every.{every, at, isFraction, fraction→value, three, four}
 
 -- ---- the test
 

@@ -1,13 +1,13 @@
--- `exponential::default_scale` meets its contract: the array is the table of the definition, and no entry is a NaN's bits. Assumes nothing.
+-- `tables::default_scale` meets its contract: the array is the table of the definition, and no entry is a NaN's bits. Assumes nothing.
 use mathlib.Core.Path.{sym}
 use mathlib.Core.Logic.{inl, inr}
 use Prim.Native.Nat.{_-_}
 use native.Mathlib.Omega.{arith}
 use borrow.Author.Needs.{needs}
-use Rattle.exponential.specs.Scale.{scaleBits}
-use Rattle.exponential.proofs.Scale.{scale-not-nan, scale-where, no-scale-where}
-use Rattle.exponential.proofs.default_scale.Statement.{statement}
-use Rattle.exponential.proofs.default_scale.Tie as tie
+use Rattle.tables.specs.Scale.{scaleBits}
+use Rattle.tables.proofs.Scale.{scale-not-nan, scale-where, no-scale-where}
+use Rattle.tables.proofs.default_scale.Statement.{statement}
+use Rattle.tables.proofs.default_scale.Tie as tie
 
 returns : tie.Need-returns
 returns c = sym (no-scale-where (c .before .args .head-size) (inl (c .if1 .taken)))

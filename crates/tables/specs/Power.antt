@@ -6,8 +6,8 @@ use mathlib.Core.Bool.{cond}
 use lib.Dec.{ltb}
 use lib.ListN.{getD}
 use lib.Ieee.{Float, binary32, ofBits}
-use Rattle.exponential.specs.declared.PowerEntry.{PowerEntry}
-use Rattle.exponential.specs.declared.PowerEntry.the-variants.{Entry, NoEntry}
+use Rattle.tables.specs.declared.PowerEntry.{PowerEntry}
+use Rattle.tables.specs.declared.PowerEntry.the-variants.{Entry, NoEntry}
 
 -- m * 2 ^ -24 is the f32 nearest to 2 ^ -(f / 256): m is whole, from 2 ^ 23 to 2 ^ 24, and (2m - 1) ^ 256 < 2 ^ (6400 - f) < (2m + 1) ^ 256
 pub record PowerRule (f m : ℕ) : Type 0 where

@@ -1,0 +1,4 @@
+pub mod Every
+pub mod Power
+pub mod Scale
+pub mod Examples
