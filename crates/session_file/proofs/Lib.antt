@@ -3,3 +3,4 @@ pub mod Below
 pub mod Joined
 pub mod Walks
 pub mod Limits
+pub mod Elements

@@ -77,7 +77,7 @@ module _ (z : Sizes) (file : List ℕ) (n : ℕ) (s : Standing file z n) where
   element-sound p i hp hi = none→each (payloadFault file (positionAt z p + 6)) (rowsOf z * (z .size + z .vsize)) (s .sound p hp) i hi
 
   module _ (before size : ℕ) (fit : before + size ≤ z .size + z .vsize) where
-    cell-sound : (p r k : ℕ) → p < n → r < rowsOf z → k < size → elementFault (fileCell z file (before * 4) p r k) ≡ false
+    pub cell-sound : (p r k : ℕ) → p < n → r < rowsOf z → k < size → elementFault (fileCell z file (before * 4) p r k) ≡ false
     cell-sound p r k hp hr hk =
         let w = z .size + z .vsize in
         let i = r * w + (before + k) in
@@ -95,7 +95,7 @@ module _ (z : Sizes) (file : List ℕ) (n : ℕ) (s : Standing file z n) where
         (λ p r k hp hr hk. subst (λ (x : Float). T (fits binary32 x) × (elementFault x ≡ false)) (sym (getD-cache rows n size cells p r k hp hr hk)) (f32At-fits file _, cell-sound p r k hp hr hk))
         i (omega (arith, h, ap length (cacheAt-is z file n (before * 4) size), length-cache rows n size cells)))
 
-length-cacheAt : (z : Sizes) (file : List ℕ) (n behind size : ℕ) → length (cacheAt z file n behind size) ≡ rowsOf z * n * size
+pub length-cacheAt : (z : Sizes) (file : List ℕ) (n behind size : ℕ) → length (cacheAt z file n behind size) ≡ rowsOf z * n * size
 length-cacheAt z file n behind size = ap length (cacheAt-is z file n behind size) ∙ length-cache (rowsOf z) n size (fileCell z file behind)
 
 -- the session that a reader gives is within every limit

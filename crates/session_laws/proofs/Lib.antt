@@ -3,7 +3,9 @@ pub mod Cuts
 pub mod Given
 pub mod Stands
 pub mod Files
+pub mod Rewritten
 pub mod Saved
 pub mod Passed
 pub mod Appended
 pub mod Kept
+pub mod Begun

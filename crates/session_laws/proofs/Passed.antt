@@ -40,15 +40,15 @@ abbrev pub isSaved : Saving → Bool
 isSaved (Saved n u) = true
 isSaved (NotSaved r) = false
 
-abbrev positionsIn : Saving → ℕ
+abbrev pub positionsIn : Saving → ℕ
 positionsIn (Saved n u) = n
 positionsIn (NotSaved r) = 0
 
-abbrev bytesIn : Saving → ℕ
+abbrev pub bytesIn : Saving → ℕ
 bytesIn (Saved n u) = u
 bytesIn (NotSaved r) = 0
 
-not-saved : {X : Type 0} (r : Refusal) (b : List ℕ) (m u : ℕ) (left : List ℕ) → refusedWith r b ≡ written (Saved m u) left → X
+pub not-saved : {X : Type 0} (r : Refusal) (b : List ℕ) (m u : ℕ) (left : List ℕ) → refusedWith r b ≡ written (Saved m u) left → X
 not-saved r b m u left e = absurd (true≢false (sym (ap (λ (w : Written). isSaved (w .answer)) e)))
 
 module _ (buffer : List ℕ) (used count : ℕ) (keys values : List Float) (m u : ℕ) (left : List ℕ) where

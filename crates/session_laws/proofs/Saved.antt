@@ -22,6 +22,7 @@ use Rattle.session_laws.specs.Statements.{wholeIn, ReadHolds, SavedHolds
 use Rattle.session_laws.proofs.Caches.{cache-of-cells}
 use Rattle.session_laws.proofs.Cuts.{record-end, ended-at, standing→read, whole-records, cut→read, first-missing}
 use Rattle.session_laws.proofs.Given.{session-cut, standing→savable}
+use Rattle.session_laws.proofs.Rewritten.{rewritten}
 use Rattle.session_laws.proofs.Files.{begun-stands, length-both, standing-both, session-both}
 
 -- no more positions are whole before byte c than stand there
@@ -47,7 +48,7 @@ module _ (file : List ℕ) (z : Sizes) (n : ℕ) (s : Standing file z n) where
 pub read-holds : (file : List ℕ) (z : Sizes) (n : ℕ) → readOf file ≡ SessionRead z n → ReadHolds file z n
 read-holds file z n e =
     let s = read→standing file z n e in
-    record { within = standing→savable file z n s; missing = cut-missing file; cut = λ c. cut→read file z n c s; same = cut-same file z n s }
+    record { within = standing→savable file z n s; rewritten = rewritten file z n s; missing = cut-missing file; cut = λ c. cut→read file z n c s; same = cut-same file z n s }
 
 -- ---- the file of a session
 

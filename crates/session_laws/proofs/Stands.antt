@@ -73,7 +73,7 @@ module _ (s : Session) (w : Savable s) (p : ℕ) (hp : p < s .positions) where
       let value = cacheRow n (z .vsize) (s .values) p r in
       omega (arith, length-append (rowBytes key) (rowBytes value), length-rowBytes key, length-rowBytes value, length-row (rowsOf z) n (z .size) (s .keys) (w .keys-length) p r hp hr, length-row (rowsOf z) n (z .vsize) (s .values) (w .values-length) p r hp hr)
 
-  length-payload : length (joined (pairBytes s p) (rowsOf z)) ≡ payloadLength z
+  pub length-payload : length (joined (pairBytes s p) (rowsOf z)) ≡ payloadLength z
   length-payload = length-joined (pairBytes s p) (pairLength z) (rowsOf z) length-pair
 
   pub length-position : length (positionBytes s p) ≡ recordLength z

@@ -17,9 +17,10 @@ use Rattle.session_laws.specs.Sessions.{Savable, firstOf, bothOf}
 abbrev pub wholeIn : Sizes → ℕ → ℕ
 wholeIn z c = (c - 14) / recordLength z
 
--- A file that is read as n positions of sizes z gives them within every limit. Cut after byte c, it is refused at byte 0 where that is in the first record, and has exactly the positions that are whole in it otherwise.
+-- A file that is read as n positions of sizes z gives them within every limit, and their own file is its bytes up to the last of them. Cut after byte c, it is refused at byte 0 where that is in the first record, and has exactly the positions that are whole in it otherwise.
 pub record ReadHolds (file : List ℕ) (z : Sizes) (n : ℕ) : Type 0 where
   pub within : Savable (sessionAt z file n)
+  pub rewritten : ((k : ℕ) → getD file k 0 < 256) → fileOf (sessionAt z file n) ≡ take (positionAt z n) file
   pub missing : (c : ℕ) → c < 14 → readOf (take c file) ≡ Refused (Record 0)
   pub cut : (c : ℕ) → 14 ≤ c → c ≤ positionAt z n → readOf (take c file) ≡ SessionRead z (wholeIn z c)
   pub same : (c : ℕ) → 14 ≤ c → c ≤ positionAt z n → sessionAt z (take c file) (wholeIn z c) ≡ firstOf (sessionAt z file n) (wholeIn z c)
@@ -36,6 +37,14 @@ pub record SavedHolds (s : Session) : Type 0 where
 -- every element is an f32
 abbrev pub AllFit : List Float → Type 0
 AllFit cache = (i : ℕ) → i < length cache → T (fits binary32 (getD cache i nan))
+
+-- What holds where a writer was lent a buffer and sizes z to begin a file with, and says that m positions are saved in u bytes of the buffer that it left: there are none, and the reader finds a file of those sizes.
+pub record BeginHolds (buffer : List ℕ) (z : Sizes) (m u : ℕ) (left : List ℕ) : Type 0 where
+  pub none : m ≡ 0
+  pub end : u ≡ 14
+  pub inside : u ≤ length left
+  pub behind : drop u left ≡ drop u buffer
+  pub reads : readOf (take u left) ≡ SessionRead z 0
 
 -- What holds where a writer was lent a buffer of which a file has the first `used` bytes, and positions to add, and says that m positions are saved in u bytes of the buffer that it left.
 pub record AppendHolds (buffer : List ℕ) (used count : ℕ) (keys values : List Float) (m u : ℕ) (left : List ℕ) : Type 0 where

@@ -19,7 +19,7 @@ use Rattle.session_file.specs.Sizes.{sizesHold, rowsOf, pairLength, recordLengt
 use Rattle.session_file.specs.Reader.{payloadFault, positionFault}
 use Rattle.session_file.proofs.Limits.{sizes→facts}
 use Rattle.session_file.proofs.Below.{none→each}
-use Rattle.session_reader.proofs.Faults.{sound→number}
+use Rattle.session_file.proofs.Elements.{sound→number}
 
 -- where row r of position q begins in the file: the rows begin `behind` bytes into each pair
 abbrev pub rowFrom : Sizes → (behind q r : ℕ) → ℕ

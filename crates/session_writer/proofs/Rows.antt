@@ -8,7 +8,7 @@ use borrow.Author.Tests.{lt-ltb, le-ltb}
 use lib.Arith.{digits-lt}
 use lib.Dec.{T, ltb}
 use lib.ListN.{length, getD, take, drop, length-append}
-use lib.Ieee.{Float, nan, inf, fin, isNan, le, neg}
+use lib.Ieee.{Float, nan, isNan}
 use Rattle.tensor_laws.proofs.Parts.{length-part, row-end}
 use Rattle.call.specs.Contents.{elementFault}
 use Rattle.records.specs.Numbers.{rowBytes}
@@ -19,6 +19,7 @@ use Rattle.session_file.specs.Sizes.{sizesHold, rowsOf, pairLength, recordLengt
 use Rattle.session_file.specs.Form.{sessionOf, cacheRow, pairBytes, positionBytes}
 use Rattle.session_file.specs.Writer.{rowFault, rowsFault}
 use Rattle.session_file.proofs.Below.{none→each, each→none}
+use Rattle.session_file.proofs.Elements.{sound→number}
 use Rattle.session_file.proofs.Joined.{length-joined}
 use Rattle.session_file.proofs.Limits.{SizesFacts, sizes→facts}
 use Rattle.session_writer.specs.Fits.{RowFits, CachesFit}
@@ -80,12 +81,6 @@ module _ (z : Sizes) (n : ℕ) (keys values : List Float) (fit : CachesFit z n (
   length-positionBytes = omega (arith, length-pairs (rowsOf z) (omega arith))
 
 -- ---- without fault
-
-sound→number : (x : Float) → elementFault x ≡ false → T (not (isNan x))
-unfolding elementFault le neg isNan
-sound→number nan e = absurd (true≢false e)
-sound→number (inf s) e = tt
-sound→number (fin s m k) e = tt
 
 -- no element of a row without fault is a NaN
 pub row-numbers : (row : List Float) → rowFault row ≡ false → (k : ℕ) → k < length row → T (not (isNan (getD row k nan)))
