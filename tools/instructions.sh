@@ -3,7 +3,7 @@
 # Where the step entry takes the call, how many more it needs than the general entry.
 # Without an argument the five shapes of `klaverdomp bench` and two of them with a score cap, then a decode step as T grows and as B * Hq
 # grows. `tools/instructions.sh B Hq Hkv P S D [SOFTCAP]` counts one shape. KLAVERDOMP_LIB_DIR names a folder with libklaverdomp.a.
-set -eu
+set -euo pipefail
 cd "$(dirname "$0")/.."
 library=${KLAVERDOMP_LIB_DIR:-target/staticlib}/libklaverdomp.a
 made=$(mktemp -d)

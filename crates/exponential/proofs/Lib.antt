@@ -5,4 +5,4 @@ pub mod Bounds
 pub mod HalvedBits
 pub mod Laws
 pub mod Blocks
-pub mod Near
+pub mod Bits

@@ -1,23 +1,29 @@
--- The whole part n of 256 * y, for y from 0 (-0 too) to below 120: it is the largest whole number not above 256 * y, it is below 30,720, and 256 * y is exact, so cutting that product gives n.
+-- The whole part n of 256 * y, for y from 0 (-0 too) to below 120: it is the largest whole number not above 256 * y, it is below 30,720, and y's significand, shifted right by the places that its exponent says, is n.
 -- Assumes nothing.
 use mathlib.Core.Path.{_≡_, refl, sym, ap, _∙_, subst}
 use mathlib.Core.Logic.{_⊎_, inl, inr}
-use Prim.Native.Nat.{ℕ, suc, _+_, _*_, _/_, _^_, _≤_, _<_, min}
-use native.Mathlib.Nat.{le-refl, le-of-eq, lt-of-lt-of-le, lt-of-le-of-lt, mul-one, zero-mul, mul-comm, mul-assoc, mul-pos, mul-le-mul-right, lt-of-mul-lt-mul-right, mul-lt-mul-of-pos-right, mul-right-comm, div-lt-iff-lt-mul, div-mul-le-self, eq-zero-or-pos}
+use Prim.Native.Nat.{ℕ, suc, _+_, _-_, _*_, _/_, _%_, _^_, _≤_, _<_, min}
+use native.Mathlib.Nat.{le-refl, le-of-eq, lt-of-lt-of-le, lt-of-le-of-lt, mul-one, zero-mul, mul-assoc, mul-pos, mul-le-mul-right, lt-of-mul-lt-mul-right, mul-lt-mul-of-pos-right, mul-right-comm, mod-lt, div-lt-iff-lt-mul, div-mul-le-self, div-eq-of-lt, eq-zero-or-pos, eq-or-lt-of-le}
 use native.Mathlib.Omega.{arith}
-use mathlib.Core.Bool.{true, false, true≢false}
+use mathlib.Core.Bool.{Bool, true, false, not, _&&_, true≢false}
 use lib.IntN.{ℤ, pos}
-use lib.Dec.{T, eqb, ltb→lt, lt→ltb, eqb→eq, lit<, lit≤}
-use lib.Pow.{pow-pos}
-use lib.Ieee.{Float, nan, inf, fin, binary32, up, down, round, mul, le, lt, fits, toUnsigned}
-use lib.Ieee.Fits.{and-l, and-r, down-pos, up-pos}
+use lib.Dec.{T, leb, eqb, leb→le, ltb→lt, nleb→lt, eqb→eq, lit<, lit≤}
+use lib.Pow.{pow-pos, pow-mono}
+use borrow.Author.Tests.{lt-leb}
+use lib.Ieee.{Float, nan, inf, fin, binary32, up, down, neg, le, lt, isNan, fits, ofFields, ofBits, toBits}
+use lib.Ieee.Fits.{and-l, and-r, and-i, down-pos, up-pos}
+use lib.Ieee.Bits.{ofBits-toBits}
 use lib.Ieee.Exact.{HasValue}
 use lib.Ieee.Nearest.{div-same}
 use lib.Ieee.Positive.{num, den}
 use lib.Ieee.Scale.{finite}
-use Rattle.float_laws.proofs.Exact.{same-value, scaled-exact, Dyadic, dyadic}
-use Rattle.float_laws.proofs.Fraction.{mul-at}
+use Rattle.float_laws.proofs.Exact.{same-value, Dyadic, dyadic}
+use Rattle.float_laws.proofs.Magnitudes.{within-bits}
+use Rattle.float_laws.proofs.Order.{lt→le}
+use Rattle.float_laws.proofs.Order.{le-trans as le-trans-float}
 use Rattle.exponential.specs.ExpNeg.{plusZero, limit, wholePartOf, inRange}
+use Rattle.exponential.specs.Blocks.{Exponent}
+use Rattle.exponential.proofs.Bits.{units, field-value, whole-units, held}
 
 -- ---- a y in range is -0, or not negative and of the form q / 2 ^ w
 
@@ -107,62 +113,112 @@ whole-in-range (fin true m e) h =
 whole-in-range (fin false m e) h =
     div-lt-iff-lt-mul (down-pos e) .1 (scaled-under (m * up e) (down e) (under-limit m e (and-r (le plusZero (fin false m e)) (lt (fin false m e) limit) h)))
 
--- ---- 256 * y is exact
+-- ---- the pattern of a y that has a whole part
 
-fits-scaled : (w : ℕ) → w ≤ 149 → w ≤ 149 + 8
-fits-scaled w h = omega arith
+-- a value has one sign
+one-sign : (y : Float) (a c b d : ℕ) → HasValue y true a c → HasValue y false b d → ⊥
+one-sign (fin s m e) a c b d p q = true≢false (sym (p .0) ∙ q .0)
 
-spare : (w : ℕ) → 24 + 8 ≤ 128 + w
-spare w = omega arith
+-- -0, or a pattern of a clear sign and a field of at most 142
+pub record Small (y : Float) : Type 0 where
+  pub at-most : toBits binary32 y ≤ 0x477fffff
+  pub whole : wholePartOf y ≡ (toBits binary32 y % 8388608 + 8388608) / 2 ^ (142 - toBits binary32 y / 8388608)
 
-pub product-exact : (y : Float) (r : Ranged y) → HasValue (mul binary32 y (fin false 1 (pos 8))) false (r .parts .q * 256) (2 ^ r .parts .w)
-product-exact y r =
-    let p = r .parts in
-    subst (λ (x : Float). HasValue x false (p .q * 256) (2 ^ p .w))
-    (sym (mul-at binary32 y (fin false 1 (pos 8)) false false (p .q) (2 ^ p .w) 256 1 (pow-pos (p .w)) (lit< tt) (p .value) (refl, refl)
-    ∙ ap (λ (c : ℕ). round binary32 false (p .q * 256) c) (mul-one (2 ^ p .w))))
-    (scaled-exact binary32 false (p .q) 8 (p .w) (p .small) (fits-scaled (p .w) (p .fine)) (spare (p .w)))
+whole-pattern : (b : ℕ) → b ≤ 0x477fffff → wholePartOf (ofBits binary32 b) ≡ (b % 8388608 + 8388608) / 2 ^ (142 - b / 8388608)
+unfolding ofBits
+whole-pattern b h =
+    let s : leb 0x80000000 b ≡ false = lt-leb 0x80000000 b (omega arith) in
+    let x : b % 0x80000000 / 8388608 ≡ b / 8388608 = omega arith in
+    let t = b % 8388608 in
+    ap wholePartOf (λ i. ofFields binary32 (s i) (x i) t)
+    ∙ whole-is (ofFields binary32 false (b / 8388608) t) (units (b / 8388608) t) (2 ^ 149) (pow-pos 149) (field-value false (b / 8388608) t (omega arith))
+    ∙ whole-units (b / 8388608) t (mod-lt b (lit< tt)) (omega arith)
 
-uncapped : (a : ℕ) → a < 30720 → min a 18446744073709551615 ≡ a
-uncapped a h = omega arith
+small-of : (y : Float) → T (fits binary32 y) → toBits binary32 y ≤ 0x477fffff → Small y
+small-of y f h = record { at-most = h; whole = subst (λ (z : Float). wholePartOf z ≡ (toBits binary32 y % 8388608 + 8388608) / 2 ^ (142 - toBits binary32 y / 8388608)) (ofBits-toBits binary32 y f) (whole-pattern (toBits binary32 y) h) }
 
--- a float that is a / c, not negative and below 30,720: it is in the range of the cut to a whole number, which is a / c
-cut : (x : Float) (a c : ℕ) → 0 < c → a < 30720 * c → HasValue x false a c → T (lt (fin true 1 (pos 0)) x) × T (lt x (fin false 1 (pos 64))) × (toUnsigned 64 x ≡ a / c)
-unfolding lt toUnsigned
-cut (fin true m e) a c C h v = absurd (true≢false (v .0))
-cut (fin false m e) a c C h v =
-    let n : m * up e / down e ≡ a / c = div-same (m * up e) (down e) a c (down-pos e) C (v .1) in
-    let l : a / c < 30720 = div-lt-iff-lt-mul C .1 h in
-    let s : m * up e < 30720 * down e = lt-of-mul-lt-mul-right c (lt-of-le-of-lt (le-of-eq (v .1)) (lt-of-lt-of-le (mul-lt-mul-of-pos-right h (down-pos e)) (le-of-eq (mul-right-comm 30720 c (down e))))) in (
-      lt→ltb 0 (1 * down e + m * up e * 1) (omega (arith, down-pos e)),
-      lt→ltb (m * up e * 1) (1 * 2 ^ 64 * down e) (omega arith),
-      subst (λ (z : ℕ). min z 18446744073709551615 ≡ a / c) (sym n) (uncapped (a / c) l),
-    )
+-- the pattern without its sign is at most that of 2 ^ 16
+bounded : (y : Float) → T (fits binary32 y) → T (inRange y) → toBits binary32 y % 0x80000000 ≤ 0x47800000
+bounded y f h =
+    let lo = fin true 1 (pos 16) in
+    let hi = fin false 1 (pos 16) in
+    let from : T (le lo y) = le-trans-float lo plusZero y (unfold le in tt) (and-l (le plusZero y) (lt y limit) h) in
+    let to : T (le y hi) = le-trans-float y limit hi (lt→le y limit (and-r (le plusZero y) (lt y limit) h)) (unfold le in tt) in
+    leb→le (toBits binary32 y % 0x80000000) 0x47800000
+    (subst T (within-bits (toBits binary32 y))
+    (subst (λ (z : Float). T (le (neg hi) z && le z hi)) (sym (ofBits-toBits binary32 y f)) (unfold neg in and-i (le lo y) (le y hi) from to)))
 
--- 256 * y is in the range of the cut, and the cut gives n
+-- a sign that is set is that of another value
+clear : (y : Float) → T (fits binary32 y) → (r : Ranged y) → toBits binary32 y % 0x80000000 ≤ 0x47800000 → toBits binary32 y < 0x80000000
+unfolding ofBits
+clear y f r h =
+    let b = toBits binary32 y in
+    let x = b % 0x80000000 / 8388608 in
+    let v : HasValue y (leb 0x80000000 b) (units x (b % 8388608)) (2 ^ 149) = subst (λ (z : Float). HasValue z (leb 0x80000000 b) (units x (b % 8388608)) (2 ^ 149)) (ofBits-toBits binary32 y f) (field-value (leb 0x80000000 b) x (b % 8388608) (omega arith)) in
+    go (leb 0x80000000 b) refl v
+  where
+    go : (s : Bool) → leb 0x80000000 (toBits binary32 y) ≡ s → HasValue y s (units (toBits binary32 y % 0x80000000 / 8388608) (toBits binary32 y % 8388608)) (2 ^ 149) → toBits binary32 y < 0x80000000
+    go true e v = absurd (one-sign y (units (toBits binary32 y % 0x80000000 / 8388608) (toBits binary32 y % 8388608)) (2 ^ 149) (r .parts .q) (2 ^ r .parts .w) v (r .parts .value))
+    go false e v = nleb→lt 0x80000000 (toBits binary32 y) (subst (λ (z : Bool). T (not z)) (sym e) tt)
+
+-- 2 ^ 16 itself has too large a whole part
+below : (y : Float) → T (fits binary32 y) → Ranged y → toBits binary32 y ≤ 0x47800000 → toBits binary32 y ≤ 0x477fffff
+unfolding ofBits
+below y f r h =
+    elim (eq-or-lt-of-le h) [
+      | inl e ↦ let n : wholePartOf y ≡ 16777216 = sym (ap wholePartOf (sym (ap (ofBits binary32) e) ∙ ofBits-toBits binary32 y f)) in absurd (omega (arith, whole-lt y r, n))
+      | inr l ↦ omega arith
+    ]
+
+-- y's bits are those of -0, or the significand shifted by the places is n; and n is below 30,720
 pub record Cut (y : Float) : Type 0 where
-  pub from : T (lt (fin true 1 (pos 0)) (mul binary32 y (fin false 1 (pos 8))))
-  pub to : T (lt (mul binary32 y (fin false 1 (pos 8))) (fin false 1 (pos 64)))
-  pub is : toUnsigned 64 (mul binary32 y (fin false 1 (pos 8))) ≡ wholePartOf y
+  pub is : ((toBits binary32 y ≡ 0x80000000) × (wholePartOf y ≡ 0)) ⊎ Small y
   pub small : wholePartOf y < 30720
 
-cut-minus-zero : Cut minusZero
-unfolding mul lt toUnsigned
-cut-minus-zero = record { from = tt; to = tt; is = refl; small = lit< tt }
-
-cut-ranged : (y : Float) → Ranged y → Cut y
-cut-ranged y r =
-    let p = r .parts in
-    let c = cut (mul binary32 y (fin false 1 (pos 8))) (p .q * 256) (2 ^ p .w) (pow-pos (p .w)) (subst (λ (a : ℕ). a < 30720 * 2 ^ p .w) (mul-comm 256 (p .q)) (scaled-under (p .q) (2 ^ p .w) (r .under))) (product-exact y r) in
-    record {
-      from = c .0;
-      to = c .1;
-      is = c .2 ∙ ap (λ (a : ℕ). a / 2 ^ p .w) (mul-comm (p .q) 256) ∙ sym (whole-part y r);
-      small = whole-lt y r;
-    }
-
 pub cut-exact : (y : Float) → T (fits binary32 y) → T (inRange y) → Cut y
-cut-exact y t h = elim (in-range y t h) [ inl e ↦ subst Cut (sym e) cut-minus-zero | inr r ↦ cut-ranged y r ]
+unfolding toBits
+cut-exact y f h = record {
+  is =
+      elim (in-range y f h) [
+        | inl e ↦ inl (ap (toBits binary32) e, ap wholePartOf e)
+        | inr r ↦ let b = bounded y f h in let c = clear y f r b in inr (small-of y f (below y f r (omega arith)))
+      ];
+  small = whole-in-range y h;
+}
+
+pub number : (y : Float) → Exponent y → T (not (isNan y))
+unfolding isNan le
+number nan (inr h) = h
+number nan (inl e) = absurd (subst (λ (z : Float). T (not (isNan z))) (sym e) tt)
+number (inf s) h = tt
+number (fin s m e) h = tt
+
+-- r is the difference that says the places
+pub shift-is : (y : Float) (r : ℕ) → T (fits binary32 y) → Exponent y → r < 2 ^ 32 → (r + toBits binary32 y) % 2 ^ 32 ≡ 0x477fffff
+    → (toBits binary32 y % 8388608 + 8388608) / 2 ^ min (r / 8388608) 31 ≡ wholePartOf y
+shift-is y r f h l e = held significand (r / 8388608) under ∙ elim (pattern h) [ inl m ↦ minus m | inr s ↦ plain s ]
+  where
+    significand : ℕ
+    significand = toBits binary32 y % 8388608 + 8388608
+
+    under : significand < 2 ^ 24
+    under = omega arith
+
+    pattern : Exponent y → ((toBits binary32 y ≡ 0x80000000) × (wholePartOf y ≡ 0)) ⊎ Small y
+    pattern (inl e) = inr (small-of y f (subst (λ (z : Float). toBits binary32 z ≤ 0x477fffff) (sym e) (unfold toBits in lit≤ tt)))
+    pattern (inr g) = cut-exact y f g .is
+
+    minus : (toBits binary32 y ≡ 0x80000000) × (wholePartOf y ≡ 0) → significand / 2 ^ (r / 8388608) ≡ wholePartOf y
+    minus m =
+        let b = m .0 in
+        let p : 24 ≤ r / 8388608 = omega arith in
+        div-eq-of-lt (lt-of-lt-of-le under (pow-mono {i = 24} {j = r / 8388608} p)) ∙ sym (m .1)
+
+    plain : Small y → significand / 2 ^ (r / 8388608) ≡ wholePartOf y
+    plain s =
+        let b = s .at-most in
+        let places : r / 8388608 ≡ 142 - toBits binary32 y / 8388608 = omega arith in
+        ap (λ (z : ℕ). significand / 2 ^ z) places ∙ sym (s .whole)
 
 -- ---- n is the largest whole number not above 256 * y, for the finite y = num y / den y
 pub whole-largest : (y : Float) → T (finite y) → (wholePartOf y * den y ≤ 256 * num y) × (256 * num y < suc (wholePartOf y) * den y)

@@ -3,7 +3,7 @@
 
 ghost use mathlib.Core.Path.{_≡_};
 ghost use lib.Dec.{T};
-ghost use Prim.Native.Nat.{ℕ, _≤_, _<_};
+ghost use Prim.Native.Nat.{ℕ, _≤_, _<_, min};
 ghost use mathlib.Core.List.{map, zipWith};
 ghost use lib.ListN.{length, getD};
 ghost use Rattle.tables.specs.Power.{powerBits};
@@ -28,7 +28,7 @@ fn whole_part(y: f32) -> u32
     requires { ⌜ T (inRange y) ⌝ }
     ensures { λ n. ⌜ n ≡ wholePartOf y ⌝ }
 {
-    std::num::truncating_f32_to_u64(y * 256.0) as u32
+    whole_or_limit(y)
 }
 
 // E by y = d * LOG2E, for y from 0 to below 120.
@@ -93,23 +93,22 @@ fn exponents(row: &mut [f32], largest: f32)
     }
 }
 
-// The largest whole number n not above 256 y, by rounding: 256 y + 2^23 is rounded to a whole number, which is 2^23 + n or 2^23 + n + 1.
-fn whole_near(y: f32) -> u32
-    requires { ⌜ T (inRange y) ⌝ }
-    ensures { λ n. ⌜ n ≡ wholePartOf y ⌝ }
+// n, held to 31: a shift is by less than 32 places. As a function of its own it is compiled to one packed minimum.
+fn at_most_31(n: u32) -> u32
+    ensures { λ r. ⌜ r ≡ min n 31 ⌝ }
 {
-    let x = y * 256.0;
-    let t = x + 8388608.0;
-    let n = f32::to_bits(t) - 0x4b000000;
-    if x < t - 8388608.0 { n - 1 } else { n }
+    if n < 31 { n } else { 31 }
 }
 
-// The largest whole number not above 256 y, also at y = 127.
+// The largest whole number not above 256 y, also at y = 127, by y's bits: the significand with its leading 1, shifted right by 142 places less the exponent's field.
+// The difference takes the field from 142 and lends nothing, since its low digits are all ones. From 24 places on nothing is left: so it is for a subnormal, which has no leading 1, and for -0, whose sign makes the difference wrap to 398 places.
 fn whole_or_limit(y: f32) -> u32
     requires { ⌜ Exponent y ⌝ }
     ensures { λ n. ⌜ n ≡ wholePartOf y ⌝ }
 {
-    if y < 120.0 { whole_near(y) } else { 32512 }
+    let bits = f32::to_bits(y);
+    let places = std::num::wrapping_sub_u32(0x477fffff, bits) / 8388608;
+    (bits % 8388608 + 8388608) >> at_most_31(places)
 }
 
 fn whole_parts(row: &[f32], wholes: &mut [u32])

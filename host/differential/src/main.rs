@@ -279,8 +279,10 @@ fn run(options: &Options) -> Result<String, String> {
     let start = Instant::now();
     let exp = exponential::check(seed, options.exp_stride, 300_000, 3_000).map_err(|text| format!("exponential: {text}"))?;
     println!(
-        "exponential: {} of 2^32 patterns, {} values in whole numbers, {} row elements, {} table arguments; {:.1} s",
-        exp.patterns, exp.exact, exp.row_elements, exp.entries, start.elapsed().as_secs_f64()
+        "exponential: {} of 2^32 patterns, {} of them as row elements, {} of them in whole numbers, {} special patterns, {} row \
+         elements of them, {} more values in whole numbers, {} more row elements, {} table arguments; {:.1} s",
+        exp.patterns, exp.pattern_elements, exp.pattern_exact, exp.special, exp.special_elements, exp.exact, exp.row_elements,
+        exp.entries, start.elapsed().as_secs_f64()
     );
 
     let lines = options.exact.as_deref().map_or(Ok(lines::Counts::default()), exact_lines)?;

@@ -1,34 +1,44 @@
--- `exponential::whole_or_limit` meets its contract: a y below 120 is in range, and any other is 127. Assumes nothing.
-use mathlib.Core.Path.{_≡_, refl, sym, ap, _∙_, subst}
-use mathlib.Core.Logic.{inl, inr}
-use mathlib.Core.Bool.{true, false, true≢false}
-use lib.Dec.{T}
-use lib.Ieee.{Float, le, lt, ofBits}
-use lib.Ieee.Fits.{and-r}
+-- `exponential::whole_or_limit` meets its contract: the difference of the bits says the places, and the significand shifted by them is the whole part. Assumes nothing.
+use mathlib.Core.Path.{_∙_}
+use Prim.Native.Nat.{_+_, _/_, _%_, min}
+use native.Mathlib.Omega.{arith}
+use lib.Ieee.{binary32, toBits}
 use borrow.Author.Needs.{needs}
-use Rattle.exponential.specs.ExpNeg.{plusZero, limit, inRange, wholePartOf}
-use Rattle.exponential.specs.Blocks.{Exponent, beyond}
+use denote.Floats.{passes}
+use Rattle.exponential.proofs.Bits.{same-shift}
+use Rattle.exponential.proofs.Whole.{number, shift-is}
 use Rattle.exponential.proofs.whole_or_limit.Statement.{statement}
 use Rattle.exponential.proofs.whole_or_limit.Tie as tie
 
-below : (y : Float) → Exponent y → lt y limit ≡ true → T (inRange y)
-below y (inl e) h = absurd (true≢false (sym h ∙ ap (λ (z : Float). lt z limit) e ∙ unfold lt in refl))
-below y (inr r) h = r
+float-to-bits-bits : tie.Need-float-to-bits-bits
+float-to-bits-bits c = number (c .args .y) (c .pre)
 
-past : (y : Float) → Exponent y → lt y limit ≡ false → y ≡ beyond
-past y (inl e) h = e
-past y (inr r) h = absurd (subst T h (and-r (le plusZero y) (lt y limit) r))
+wrapping-sub-u32-requires : tie.Need-wrapping-sub-u32-requires
+wrapping-sub-u32-requires c κs = search needs
 
-whole-near-requires : tie.Need-whole-near-requires
-unfolding ofBits
-whole-near-requires c κs = below (c .before .args .y) (c .before .pre) (c .if1 .taken)
+add-result : tie.Need-add-result
+add-result c = search needs
+
+at-most-31-requires : tie.Need-at-most-31-requires
+at-most-31-requires c κs = search needs
+
+shr-result : tie.Need-shr-result
+shr-result c = search needs
 
 returns : tie.Need-returns
-returns c = search needs
-
-returns-2 : tie.Need-returns-2
-unfolding ofBits
-returns-2 c = sym (ap wholePartOf (past (c .before .args .y) (c .before .pre) (c .if1 .left)))
+returns c =
+    let s = c .before .before in
+    let r = c .before .wrapping-sub-u32 in
+    same-shift {b = toBits binary32 (s .args .y) % 8388608 + 8388608} {e = min (r .result / 8388608) 31} (omega arith) (omega (arith, c .at-most-31 .ensures))
+    ∙ shift-is (s .args .y) (r .result) (passes _ (s .good .0 .1)) (s .pre) (omega arith) (omega (arith, r .ensures))
 
 pub whole-or-limit-spec : {M : Type 1} → statement M
-whole-or-limit-spec = tie.close (tie.spec whole-near-requires returns returns-2)
+whole-or-limit-spec =
+    tie.close
+    (tie.spec
+    float-to-bits-bits
+    wrapping-sub-u32-requires
+    add-result
+    at-most-31-requires
+    shr-result
+    returns)
