@@ -119,7 +119,7 @@ whole-in-range (fin false m e) h =
 one-sign : (y : Float) (a c b d : ℕ) → HasValue y true a c → HasValue y false b d → ⊥
 one-sign (fin s m e) a c b d p q = true≢false (sym (p .0) ∙ q .0)
 
--- -0, or a pattern of a clear sign and a field of at most 142
+-- the pattern has a clear sign and a field of at most 142, and the significand shifted right by the places is n
 pub record Small (y : Float) : Type 0 where
   pub at-most : toBits binary32 y ≤ 0x477fffff
   pub whole : wholePartOf y ≡ (toBits binary32 y % 8388608 + 8388608) / 2 ^ (142 - toBits binary32 y / 8388608)
@@ -148,7 +148,7 @@ bounded y f h =
     (subst T (within-bits (toBits binary32 y))
     (subst (λ (z : Float). T (le (neg hi) z && le z hi)) (sym (ofBits-toBits binary32 y f)) (unfold neg in and-i (le lo y) (le y hi) from to)))
 
--- a sign that is set is that of another value
+-- the sign is clear: a pattern with the sign set stands for a value below y, or for -0
 clear : (y : Float) → T (fits binary32 y) → (r : Ranged y) → toBits binary32 y % 0x80000000 ≤ 0x47800000 → toBits binary32 y < 0x80000000
 unfolding ofBits
 clear y f r h =
@@ -170,7 +170,7 @@ below y f r h =
       | inr l ↦ omega arith
     ]
 
--- y's bits are those of -0, or the significand shifted by the places is n; and n is below 30,720
+-- y's bits are those of -0, and n is 0, or the significand shifted right by the places is n; and n is below 30,720
 pub record Cut (y : Float) : Type 0 where
   pub is : ((toBits binary32 y ≡ 0x80000000) × (wholePartOf y ≡ 0)) ⊎ Small y
   pub small : wholePartOf y < 30720
@@ -186,6 +186,7 @@ cut-exact y f h = record {
   small = whole-in-range y h;
 }
 
+-- it is a number, so that it has bits
 pub number : (y : Float) → Exponent y → T (not (isNan y))
 unfolding isNan le
 number nan (inr h) = h
@@ -193,7 +194,7 @@ number nan (inl e) = absurd (subst (λ (z : Float). T (not (isNan z))) (sym e) t
 number (inf s) h = tt
 number (fin s m e) h = tt
 
--- r is the difference that says the places
+-- n as the code finds it: r is the difference whose upper bits are the places
 pub shift-is : (y : Float) (r : ℕ) → T (fits binary32 y) → Exponent y → r < 2 ^ 32 → (r + toBits binary32 y) % 2 ^ 32 ≡ 0x477fffff
     → (toBits binary32 y % 8388608 + 8388608) / 2 ^ min (r / 8388608) 31 ≡ wholePartOf y
 shift-is y r f h l e = held significand (r / 8388608) under ∙ elim (pattern h) [ inl m ↦ minus m | inr s ↦ plain s ]

@@ -93,15 +93,15 @@ fn exponents(row: &mut [f32], largest: f32)
     }
 }
 
-// n, held to 31: a shift is by less than 32 places. As a function of its own it is compiled to one packed minimum.
+// n, held to 31, since a shift is by less than 32 places. As a function of its own it is compiled to one packed minimum.
 fn at_most_31(n: u32) -> u32
     ensures { λ r. ⌜ r ≡ min n 31 ⌝ }
 {
     if n < 31 { n } else { 31 }
 }
 
-// The largest whole number not above 256 y, also at y = 127, by y's bits: the significand with its leading 1, shifted right by 142 places less the exponent's field.
-// The difference takes the field from 142 and lends nothing, since its low digits are all ones. From 24 places on nothing is left: so it is for a subnormal, which has no leading 1, and for -0, whose sign makes the difference wrap to 398 places.
+// The largest whole number not above 256 y, also at y = 127: the significand with its leading 1, shifted right by 142 places less the exponent's field.
+// The low digits of 0x477fffff are all ones, so that the difference borrows nothing from the field; for -0 it wraps, to 398 places. From 24 places on nothing is left, also of a subnormal, which has no leading 1.
 fn whole_or_limit(y: f32) -> u32
     requires { ⌜ Exponent y ⌝ }
     ensures { λ n. ⌜ n ≡ wholePartOf y ⌝ }
