@@ -129,7 +129,7 @@ fn poly_at(y: f32, n: u32) -> f32
     requires { ⌜ n ≤ 32512 ⌝ }
     ensures { λ r. ⌜ r ≡ polyOf (restOf y) ⌝ }
 {
-    let r = y - n as f32 / 256.0;
+    let r = y - (n % 32768) as f32 / 256.0;
     1.0 - r * (f32::from_bits(C1) - r * f32::from_bits(C2))
 }
 
