@@ -2,13 +2,13 @@
 use mathlib.Core.Path.{_≡_, refl, sym, ap, _∙_, subst}
 use mathlib.Core.Logic.{inl, inr}
 use mathlib.Core.List.{List, [], _∷_, map, zipWith}
-use Prim.Native.Nat.{ℕ, zero, suc, _+_, _/_, _%_, _≤_, _<_}
+use Prim.Native.Nat.{ℕ, zero, suc, _+_, _-_, _*_, _/_, _%_, _≤_, _<_}
 use native.Mathlib.Nat.{not-suc-le-zero, le-of-suc-le-suc, zero-add, suc-add, div-lt-iff-lt-mul, mod-le}
 use native.Mathlib.Omega.{arith}
 use mathlib.Core.Bool.{Bool, true, false, not, _||_, _&&_, cond}
 use lib.Dec.{T, T-not, not-T, lit<, lit≤}
 use lib.ListN.{length, getD, take, drop, length-map}
-use lib.Ieee.{Float, nan, inf, fin, binary32, sub, mul, le, lt, isNan, nanBits}
+use lib.Ieee.{Float, nan, inf, fin, binary32, sub, mul, le, lt, isNan, nanBits, ofBits}
 use lib.Ieee.Bits.{is-true, nanBits-above}
 use denote.Floats.{passes}
 use borrow.Author.Tests.{le-ltb}
@@ -137,12 +137,26 @@ unfolding tabulate
 tabulate-wholes [] = refl
 tabulate-wholes (y ∷ ys) = ap (λ (r : List ℕ). wholePartOf y ∷ r) (tabulate-wholes ys)
 
-pub tabulate-powers : (ns : List ℕ) (ps : List Float) → length ns ≡ length ps → tabulate (length ps) (λ k. timesPower (getD ns k 0) (getD ps k nan)) ≡ zipWith timesPower ns ps
+pub tabulate-zip : (g : ℕ → Float → Float) (ns : List ℕ) (ps : List Float) → length ns ≡ length ps → tabulate (length ps) (λ k. g (getD ns k 0) (getD ps k nan)) ≡ zipWith g ns ps
 unfolding tabulate zipWith
-tabulate-powers [] [] e = refl
-tabulate-powers [] (p ∷ ps) e = absurd (omega arith)
-tabulate-powers (n ∷ ns) [] e = absurd (omega arith)
-tabulate-powers (n ∷ ns) (p ∷ ps) e = ap (λ (r : List Float). timesPower n p ∷ r) (tabulate-powers ns ps (omega arith))
+tabulate-zip g [] [] e = refl
+tabulate-zip g [] (p ∷ ps) e = absurd (omega arith)
+tabulate-zip g (n ∷ ns) [] e = absurd (omega arith)
+tabulate-zip g (n ∷ ns) (p ∷ ps) e = ap (λ (r : List Float). g n p ∷ r) (tabulate-zip g ns ps (omega arith))
+
+-- the two products of timesPower
+abbrev pub timesEntry : ℕ → Float → Float
+timesEntry n p = mul binary32 (powerOf (n % 256)) p
+
+abbrev pub halvedBy : ℕ → Float → Float
+halvedBy n p = mul binary32 p (ofBits binary32 ((127 - n / 256) * 8388608))
+
+-- all of the first and then all of the second
+pub both-products : (ns : List ℕ) (ps : List Float) → zipWith halvedBy ns (zipWith timesEntry ns ps) ≡ zipWith timesPower ns ps
+unfolding zipWith timesPower
+both-products [] ps = refl
+both-products (n ∷ ns) [] = refl
+both-products (n ∷ ns) (p ∷ ps) = ap (λ (r : List Float). timesPower n p ∷ r) (both-products ns ps)
 
 -- the exponents of a row
 pub length-exponents : (largest : Float) (row : List Float) → length (exponentsOf largest row) ≡ length row

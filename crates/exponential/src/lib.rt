@@ -3,10 +3,11 @@
 
 ghost use mathlib.Core.Path.{_≡_};
 ghost use lib.Dec.{T};
-ghost use Prim.Native.Nat.{ℕ, _≤_, _<_, min};
+ghost use Prim.Native.Nat.{ℕ, _-_, _*_, _/_, _%_, _≤_, _<_, min};
 ghost use mathlib.Core.List.{map, zipWith};
 ghost use lib.ListN.{length, getD};
-ghost use Rattle.tables.specs.Power.{powerBits};
+ghost use lib.Ieee.{binary32, mul, ofBits};
+ghost use Rattle.tables.specs.Power.{powerBits, powerOf};
 ghost use Rattle.exponential.specs.ExpNeg.{inRange, wholePartOf, restOf, polyOf, belowLimitOf, expNegOf, expNegRowOf};
 ghost use Rattle.exponential.specs.Blocks.{exponentOf, exponentsOf, Exponent, Exponents, polysOf, timesPower};
 
@@ -145,17 +146,36 @@ fn polys(row: &mut [f32], wholes: &[u32])
     }
 }
 
-// (P[f] * p) * 2^-k, with k = n / 256 and f = n mod 256; for n = 127 * 256 the last factor is +0.
-fn times_power(powers: &[u32; 256], n: u32, p: f32) -> f32
+// P[f] * p, with f = n mod 256.
+fn times_entry(powers: &[u32; 256], n: u32, p: f32) -> f32
     requires { ⌜ now powers ≡ powerBits ⌝ }
-    requires { ⌜ n ≤ 32512 ⌝ }
-    ensures { λ r. ⌜ r ≡ timesPower n p ⌝ }
+    ensures { λ r. ⌜ r ≡ mul binary32 (powerOf (n % 256)) p ⌝ }
 {
     let at = (n % 256) as usize;
-    let halving = f32::from_bits((127 - n / 256) * 8388608);
-    f32::from_bits(powers[at]) * p * halving
+    f32::from_bits(powers[at]) * p
 }
 
+// p * 2^-k, with k = n / 256; for n = 127 * 256 the factor is +0.
+fn halved(n: u32, p: f32) -> f32
+    requires { ⌜ n ≤ 32512 ⌝ }
+    ensures { λ r. ⌜ r ≡ mul binary32 p (ofBits binary32 ((127 - n / 256) * 8388608)) ⌝ }
+{
+    p * f32::from_bits((127 - n / 256) * 8388608)
+}
+
+fn halve(row: &mut [f32], wholes: &[u32])
+    requires { ⌜ length (now wholes) ≡ length (now row) ⌝ }
+    requires { ⌜ ((k : ℕ) → k < length (now wholes) → getD (now wholes) k 0 ≤ 32512) ⌝ }
+    ensures { λ _. ⌜ now (row .exit) ≡ zipWith (λ n p. mul binary32 p (ofBits binary32 ((127 - n / 256) * 8388608))) (now (wholes .entry)) (now (row .entry)) ⌝ }
+{
+    let mut i = 0;
+    while i < row.len() {
+        row[i] = halved(wholes[i], row[i]);
+        i += 1;
+    }
+}
+
+// (P[f] * p) * 2^-k at each element. The products by 2^-k come after all those by the table: apart from the reads there, they are packed.
 fn times_powers(powers: &[u32; 256], row: &mut [f32], wholes: &[u32])
     requires { ⌜ now powers ≡ powerBits ⌝ }
     requires { ⌜ length (now wholes) ≡ length (now row) ⌝ }
@@ -164,9 +184,10 @@ fn times_powers(powers: &[u32; 256], row: &mut [f32], wholes: &[u32])
 {
     let mut i = 0;
     while i < row.len() {
-        row[i] = times_power(powers, wholes[i], row[i]);
+        row[i] = times_entry(powers, wholes[i], row[i]);
         i += 1;
     }
+    halve(row, wholes);
 }
 
 // E over at most 64 elements, each step over all of them before the next.
