@@ -10,11 +10,8 @@ library=${KLAVERDOMP_LIB_DIR:-target/staticlib}/libklaverdomp.a
 made=$(mktemp -d)
 trap 'rm -rf "$made"' EXIT
 gcc -O3 -ffp-contract=off -c reference/reference.c -o "$made/reference.o"
-if [ -n "$other" ]; then
-    # The exported functions of the other library are named other_ in place of klaverdomp_.
-    nm -g --defined-only "$other" | sed -n 's/.* T klaverdomp_\(.*\)/klaverdomp_\1 other_\1/p' > "$made/names"
-    objcopy --redefine-syms="$made/names" "$other" "$made/other.a"
-fi
+. tools/other.sh
+[ -z "$other" ] || rename_other "$other" "$made/other.a"
 gcc -O2 -Wall ${other:+-DOTHER} tools/exponential.c "$made/reference.o" "$library" ${other:+"$made/other.a"} -o "$made/exponential" -lm
 "$made/exponential" same
 

@@ -124,7 +124,7 @@ fn whole_parts(row: &[f32], wholes: &mut [u32])
     }
 }
 
-// The polynomial at the rest of y, by the whole part n.
+// The polynomial at the rest of y, by the whole part n. Modulo 2^15 n is itself; so the compiler knows that it is small, and converts it in fewer instructions.
 fn poly_at(y: f32, n: u32) -> f32
     requires { ⌜ n ≡ wholePartOf y ⌝ }
     requires { ⌜ n ≤ 32512 ⌝ }
@@ -175,7 +175,7 @@ fn halve(row: &mut [f32], wholes: &[u32])
     }
 }
 
-// (P[f] * p) * 2^-k at each element. The products by 2^-k come after all those by the table: apart from the reads there, they are packed.
+// (P[f] * p) * 2^-k at each element. The products by the table go one by one, and those by 2^-k, after all of them, four at a time.
 fn times_powers(powers: &[u32; 256], row: &mut [f32], wholes: &[u32])
     requires { ⌜ now powers ≡ powerBits ⌝ }
     requires { ⌜ length (now wholes) ≡ length (now row) ⌝ }
