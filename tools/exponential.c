@@ -19,7 +19,7 @@ void other_exp_neg_row_1(float *row, size_t row_len, float largest);
 
 enum { ELEMENTS = 4096, CALLS = 1000, ROUNDS = 201, FILLS = 100, TURNS = 400, MOST = 3 };
 
-static const size_t lengths[] = {64, 256, 500, 512, 2048};
+static const size_t lengths[] = {61, 63, 64, 255, 256, 500, 509, 511, 512, 2047, 2048};
 static float scores[ELEMENTS], memory[ELEMENTS];
 
 /* xorshift */

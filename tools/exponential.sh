@@ -36,7 +36,7 @@ instructions() { # WORDS ELEMENTS NAME=FUNCTION...: the library first, and its r
 }
 
 echo 'instructions for one element:'
-for length in 512 500; do
+for length in 500 509 511 512; do
     printf 'row of %s: ' "$length"
     instructions "row $length" "$length" library=klaverdomp_exp_neg_row_1 ${other:+other=other_exp_neg_row_1}
 done
