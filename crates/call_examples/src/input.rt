@@ -88,7 +88,7 @@ fn numbers() -> [u64; 18]
 pub fn record() -> Call {
     let all = numbers();
     let scale = float();
-    interface::decode(&all, scale, float())
+    interface_record::decode(&all, scale, float())
 }
 
 // The live count whose two's complement this is.

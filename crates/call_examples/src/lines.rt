@@ -66,7 +66,7 @@ pub fn print_tensor(tensor: &[f32; 4096], count: usize)
 
 // The refusal's number, the tensor and the index at fault, T and the number of fully masked rows (blind rows).
 pub fn print_answer(answer: Answer) {
-    let report = interface::report(answer);
+    let report = interface_answer::report(answer);
     io::write_all(1, b" |");
     print_count(report.number as u64);
     print_count(report.tensor);

@@ -1,3 +1,2 @@
 pub mod SecondChunk
 pub mod EmptyPrograms
-pub mod Vectors

@@ -1,3 +1,0 @@
-pub mod NoCall
-pub mod Reported
-pub mod Savings

@@ -10,7 +10,7 @@ ghost use Rattle.tables.specs.Power.{powerEntryOf};
 ghost use Rattle.tables.specs.Scale.{defaultScaleOf};
 ghost use Rattle.exponential.specs.ExpNeg.{expNegOf, expNegRowOf};
 ghost use Rattle.interface.specs.Record.{callOf};
-ghost use Rattle.klaverdomp.specs.Returned.{returned, returnedOf, told, exponentialTold, powerTold, scaleTold};
+ghost use Rattle.interface.specs.Returned.{returned, returnedOf, told, exponentialTold, powerTold, scaleTold};
 use exponential::Exponential;
 use tables::DefaultScale;
 use tables::PowerEntry;
@@ -41,7 +41,7 @@ pub extern "C" fn klaverdomp_attention_3<'a>(
 ) -> u32
     ensures { λ r. ⌜ returned r (now (tensor .exit)) (now (index .exit)) (now (total .exit)) (now (masked .exit)) (outputsOf (now (output .exit)) (now (presentkey .exit)) (now (presentvalue .exit)) (now (scores .exit)) (now (work .exit))) ≡ returnedOf (attentionOf (callOf (now (numbers .entry)) scale softcap) (inputsOf (now (query .entry)) (now (key .entry)) (now (value .entry)) (now (boolmask .entry)) (now (floatmask .entry)) (now (pastkey .entry)) (now (pastvalue .entry)) (now (live .entry))) (outputsOf (now (output .entry)) (now (presentkey .entry)) (now (presentvalue .entry)) (now (scores .entry)) (now (work .entry)))) ⌝ }
 {
-    let call = interface::decode(numbers, scale, softcap);
+    let call = interface_record::decode(numbers, scale, softcap);
     let answer = entry::attention(
         call,
         query,
@@ -58,7 +58,7 @@ pub extern "C" fn klaverdomp_attention_3<'a>(
         scores,
         work,
     );
-    let given = interface::report(answer);
+    let given = interface_answer::report(answer);
     *tensor = given.tensor;
     *index = given.index;
     *total = given.total;
@@ -88,7 +88,7 @@ pub extern "C" fn klaverdomp_step_3<'a>(
 ) -> u32
     ensures { λ r. ⌜ returned r (now (tensor .exit)) (now (index .exit)) (now (total .exit)) (now (masked .exit)) (stepOutputs (now (output .exit)) (now (presentkey .exit)) (now (presentvalue .exit)) (now (work .exit))) ≡ returnedOf (stepOf (callOf (now (numbers .entry)) scale softcap) (stepInputs (now (query .entry)) (now (key .entry)) (now (value .entry)) (now (pastkey .entry)) (now (pastvalue .entry))) (stepOutputs (now (output .entry)) (now (presentkey .entry)) (now (presentvalue .entry)) (now (work .entry)))) ⌝ }
 {
-    let call = interface::decode(numbers, scale, softcap);
+    let call = interface_record::decode(numbers, scale, softcap);
     let answer = step::step(
         call,
         query,
@@ -101,7 +101,7 @@ pub extern "C" fn klaverdomp_step_3<'a>(
         presentvalue,
         work,
     );
-    let told = interface::report(answer);
+    let told = interface_answer::report(answer);
     *tensor = told.tensor;
     *index = told.index;
     *total = told.total;
@@ -114,7 +114,7 @@ pub extern "C" fn klaverdomp_step_3<'a>(
 pub extern "C" fn klaverdomp_exp_neg_1(d: f32, value: &mut f32) -> u32
     ensures { λ r. ⌜ told r (now (value .exit)) ≡ exponentialTold (expNegOf d) ⌝ }
 {
-    match exponential::exp_neg(d) {
+    match exponential_number::exp_neg(d) {
         Exponential::Value(x) => {
             *value = x;
             1
@@ -131,7 +131,7 @@ pub extern "C" fn klaverdomp_exp_neg_1(d: f32, value: &mut f32) -> u32
 pub extern "C" fn klaverdomp_exp_neg_row_1(row: &mut [f32], largest: f32)
     ensures { λ _. ⌜ now (row .exit) ≡ expNegRowOf largest (now (row .entry)) ⌝ }
 {
-    exponential::exp_neg_row(row, largest);
+    exponential_row::exp_neg_row(row, largest);
 }
 
 // The entry of the power table at an index below 256: 1 and the value, or 0 and +0 at any other.

@@ -3,7 +3,7 @@ ghost use mathlib.Core.Path.{_≡_};
 ghost use Rattle.session_file.specs.Reader.{readOf, loadOf};
 ghost use Rattle.session_file.specs.Writer.{beginOf, appendOf};
 ghost use Rattle.session_file.specs.Numbers.{readingReport};
-ghost use Rattle.klaverdomp.specs.Sessions.{readingOf, loadedWith, loadedReport, savedWith, savedReport, sizesOf};
+ghost use Rattle.session_interface.specs.Sessions.{readingOf, loadedWith, loadedReport, savedWith, savedReport, sizesOf};
 use session_file::Sizes;
 
 // What stands in a file. The result is 0, with its sizes, how many positions are whole and how many bytes these have, or the number of the refusal, with its place.
@@ -20,7 +20,7 @@ pub extern "C" fn klaverdomp_session_inspect_1(
 ) -> u32
     ensures { λ r. ⌜ readingOf r (now (batches .exit)) (now (kvheads .exit)) (now (size .exit)) (now (vsize .exit)) (now (positions .exit)) (now (used .exit)) (now (place .exit)) ≡ readingReport (readOf (now (file .entry))) ⌝ }
 {
-    let given = session_interface::report_reading(session_reader::inspect(file));
+    let given = session_answers::report_reading(session_inspect::inspect(file));
     *batches = given.batches;
     *kvheads = given.kvheads;
     *size = given.size;
@@ -47,8 +47,8 @@ pub extern "C" fn klaverdomp_session_load_1(
 ) -> u32
     ensures { λ r. ⌜ loadedWith (readingOf r (now (batches .exit)) (now (kvheads .exit)) (now (size .exit)) (now (vsize .exit)) (now (positions .exit)) (now (used .exit)) (now (place .exit))) (now (keys .exit)) (now (values .exit)) ≡ loadedReport (loadOf (now (file .entry)) (now (keys .entry)) (now (values .entry))) ⌝ }
 {
-    let reading = session_reader::load(file, keys, values);
-    let given = session_interface::report_reading(reading);
+    let reading = session_load::load(file, keys, values);
+    let given = session_answers::report_reading(reading);
     *batches = given.batches;
     *kvheads = given.kvheads;
     *size = given.size;
@@ -79,8 +79,8 @@ pub extern "C" fn klaverdomp_session_begin_1(
         size: size as usize,
         vsize: vsize as usize,
     };
-    let saving = session_writer::begin(buffer, sizes);
-    let given = session_interface::report_saving(saving);
+    let saving = session_begin::begin(buffer, sizes);
+    let given = session_answers::report_saving(saving);
     *positions = given.positions;
     *used = given.used;
     *place = given.place;
@@ -101,8 +101,8 @@ pub extern "C" fn klaverdomp_session_append_1(
 ) -> u32
     ensures { λ r. ⌜ savedWith r (now (positions .exit)) (now (used .exit)) (now (place .exit)) (now (buffer .exit)) ≡ savedReport (appendOf (now (buffer .entry)) from count (now (keys .entry)) (now (values .entry))) ⌝ }
 {
-    let saving = session_writer::append(buffer, from as usize, count as usize, keys, values);
-    let given = session_interface::report_saving(saving);
+    let saving = session_append::append(buffer, from as usize, count as usize, keys, values);
+    let given = session_answers::report_saving(saving);
     *positions = given.positions;
     *used = given.used;
     *place = given.place;

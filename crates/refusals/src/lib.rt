@@ -25,11 +25,11 @@ pub fn verdict(
 ) -> Verdict
     ensures { λ r. ⌜ ((y : Outputs) → WrittenLengths y output presentkey presentvalue scores work → r ≡ verdictOf call (inputsOf (now (query .entry)) (now (key .entry)) (now (value .entry)) (now (boolmask .entry)) (now (floatmask .entry)) (now (pastkey .entry)) (now (pastvalue .entry)) (now (live .entry))) y) ⌝ }
 {
-    let by_record = shapes::record::record_verdict(call);
+    let by_record = shapes_record::record_verdict(call);
     if let Verdict::Refused(answer) = by_record {
         return Verdict::Refused(answer);
     }
-    let by_lengths = shapes::lengths::lengths_verdict(
+    let by_lengths = shapes_lengths::lengths_verdict(
         call,
         query,
         key,
@@ -48,9 +48,9 @@ pub fn verdict(
     if let Verdict::Refused(answer) = by_lengths {
         return Verdict::Refused(answer);
     }
-    let by_cells = contents::cells::cells_verdict(call, boolmask, floatmask, live);
+    let by_cells = contents_masks::cells_verdict(call, boolmask, floatmask, live);
     if let Verdict::Refused(answer) = by_cells {
         return Verdict::Refused(answer);
     }
-    contents::elements::elements_verdict(call, query, key, value, pastkey, pastvalue, live)
+    contents_verdict::elements_verdict(call, query, key, value, pastkey, pastvalue, live)
 }

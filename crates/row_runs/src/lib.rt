@@ -43,8 +43,8 @@ fn score_run<'a>(
         return;
     }
     let size = call.size;
-    let keys = caches::rows_from(call, past, incoming, size, b, g, from);
-    let stride = caches::row_stride(call, size, from);
+    let keys = caches_rows::rows_from(call, past, incoming, size, b, g, from);
+    let stride = caches_rows::row_stride(call, size, from);
     scores::score_rows(q, keys, stride, scale, row);
 }
 
@@ -89,7 +89,7 @@ pub fn score_row<'a>(
     ensures { λ _. ⌜ ScoresDone m (λ j. scoreOf (call .size) (elementOf (now (q .entry))) (positionCell call (now (past .entry)) (now (incoming .entry)) (call .size) b g j) scale) dots (now (shown .entry)) (now (work .entry)) (now (shown .exit)) (now (work .exit)) ⌝ }
 {
     score_positions(call, scale, q, past, incoming, b, g, &mut work[..m]);
-    row_steps::show(dots, &work[..m], 0.0, shown);
+    row_shown::show(dots, &work[..m], 0.0, shown);
 }
 
 // ---- the weighted sum of a row
@@ -118,8 +118,8 @@ fn weigh_run<'a>(
     }
     let size = call.vsize;
     let kind = call.mask;
-    let values = caches::rows_from(call, past, incoming, size, b, g, from);
-    let stride = caches::row_stride(call, size, from);
+    let values = caches_rows::rows_from(call, past, incoming, size, b, g, from);
+    let stride = caches_rows::row_stride(call, size, from);
     admitted_sum::weigh_admitted(
         kind,
         bytes,
@@ -201,6 +201,6 @@ pub fn output_row<'a>(
     requires { ⌜ (at + length (now weights) < 0x100000000) × ((k : ℕ) → k < length (now weights) → maskHas (call .mask) (length (now bytes)) (length (now cells)) (at + repeated (call .maskk) k)) ⌝ }
     ensures { λ _. ⌜ now (out .exit) ≡ addedRowOf (length (now (weights .entry))) (λ j. admittedBy (call .mask) (now (bytes .entry)) (now (cells .entry)) (at + repeated (call .maskk) j)) (elementOf (now (weights .entry))) (λ j k. positionCell call (now (past .entry)) (now (incoming .entry)) (call .vsize) b g j k) (replicate (call .vsize) plusZero) ⌝ }
 {
-    softmax::fill_row(out, 0.0);
+    row_copies::fill_row(out, 0.0);
     weigh_positions(call, bytes, cells, at, past, incoming, b, g, weights, out);
 }

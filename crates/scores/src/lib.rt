@@ -32,8 +32,8 @@ fn score_block(
     requires { ⌜ ((j : ℕ) → j < length (now out) → j * stride + length (now q) ≤ length (now keys)) ⌝ }
     ensures { λ _. ⌜ now (out .exit) ≡ scoreRowsOf (now (q .entry)) (now (keys .entry)) stride scale (length (now (out .entry))) ⌝ }
 {
-    lanes::sum_fours(q, keys, stride, lanes);
-    lanes::sum_rest(q, keys, stride, lanes);
+    lanes_keys::sum_fours(q, keys, stride, lanes);
+    lanes_keys::sum_rest(q, keys, stride, lanes);
     join_lanes(lanes, scale, out);
 }
 
@@ -45,7 +45,7 @@ fn score_few(q: &[f32], keys: &[f32], stride: usize, scale: f32, out: &mut [f32]
     let mut j = 0;
     while j < out.len() {
         let at = j * stride;
-        out[j] = lanes::dot(q, &keys[at..]) * scale;
+        out[j] = lanes_dot::dot(q, &keys[at..]) * scale;
         j += 1;
     }
 }

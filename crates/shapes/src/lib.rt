@@ -1,3 +1,1 @@
-// Refusals 1 to 6: the call record, and the lengths of the lent tensors.
-pub mod lengths;
-pub mod record;
+// What the tests of a record and of lengths rest on. Definitions and laws; no functions.

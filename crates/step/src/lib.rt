@@ -1,73 +1,9 @@
 // The step entry: one position of one batch on a cache, which is the call that a decoder makes at every step. It takes the records of the step profile alone.
 ghost use mathlib.Core.Path.{_≡_};
-ghost use Rattle.call.specs.Profile.{isCached, isUnmasked, isUnscored, profileHolds};
 ghost use Rattle.attention.specs.Outcomes.{outcomeOf};
 ghost use Rattle.attention.specs.Entries.{stepInputs, stepOutputs, stepOf};
 use call::Answer;
 use call::Call;
-use call::Form;
-use call::MaskKind;
-use call::ScoreMode;
-
-fn is_cached(form: Form) -> bool
-    ensures { λ r. ⌜ r ≡ isCached form ⌝ }
-{
-    match form {
-        Form::Plain => false,
-        Form::Cached => true,
-        Form::Counted => false,
-    }
-}
-
-fn is_unmasked(mask: MaskKind) -> bool
-    ensures { λ r. ⌜ r ≡ isUnmasked mask ⌝ }
-{
-    match mask {
-        MaskKind::NoMask => true,
-        MaskKind::Boolean => false,
-        MaskKind::Float => false,
-    }
-}
-
-fn is_unscored(mode: ScoreMode) -> bool
-    ensures { λ r. ⌜ r ≡ isUnscored mode ⌝ }
-{
-    match mode {
-        ScoreMode::NoScores => true,
-        ScoreMode::Mode(_) => false,
-    }
-}
-
-// Whether the record is of the step profile.
-fn profile_holds(call: Call) -> bool
-    ensures { λ r. ⌜ r ≡ profileHolds call ⌝ }
-{
-    let form = call.form;
-    if !is_cached(form) {
-        return false;
-    }
-    let mask = call.mask;
-    if !is_unmasked(mask) {
-        return false;
-    }
-    let mode = call.mode;
-    if !is_unscored(mode) {
-        return false;
-    }
-    if call.rank != 4 {
-        return false;
-    }
-    if call.causal != 1 {
-        return false;
-    }
-    if call.batches != 1 {
-        return false;
-    }
-    if call.qlen != 1 {
-        return false;
-    }
-    call.klen == 1
-}
 
 // A step. A record of the profile is answered as the general entry answers it without masks, live counts and scores; any other is refusal 10, and leaves every tensor as it came in.
 pub fn step<'a>(
@@ -84,7 +20,7 @@ pub fn step<'a>(
 ) -> Answer
     ensures { λ r. ⌜ outcomeOf r (stepOutputs (now (output .exit)) (now (presentkey .exit)) (now (presentvalue .exit)) (now (work .exit))) ≡ stepOf call (stepInputs (now (query .entry)) (now (key .entry)) (now (value .entry)) (now (pastkey .entry)) (now (pastvalue .entry))) (stepOutputs (now (output .entry)) (now (presentkey .entry)) (now (presentvalue .entry)) (now (work .entry))) ⌝ }
 {
-    if !profile_holds(call) {
+    if !step_profile::profile_holds(call) {
         return Answer::Profile;
     }
     let bytes: [u8; 0] = [0; 0];

@@ -14,7 +14,7 @@ use Rattle.tensor_laws.proofs.Parts.{length-part as length-middle}
 use Rattle.tensor_laws.proofs.Tails.{partOf, length-part, getD-part}
 use Rattle.softmax.specs.Lists.{accumulatedOf, weightedRowsOf}
 use Rattle.softmax.proofs.Rows.{columnOf}
-use Rattle.weighted_sum.proofs.Columns.{all-columns, columns-long}
+use Rattle.weighted_columns.proofs.Columns.{all-columns, columns-long}
 use Rattle.weighted_sum.proofs.Blocks.{rows-more}
 use Rattle.weighted_sum.proofs.weighted_rows.Statement.{statement}
 use Rattle.weighted_sum.proofs.weighted_rows.Tie as tie

@@ -1,6 +1,6 @@
 -- `klaverdomp::sessions::klaverdomp_session_append_1` meets its contract: the saving of the writer that adds, reported with the buffer. Assumes nothing.
 use borrow.Author.Needs.{needs}
-use Rattle.klaverdomp.proofs.Savings.{saved-is}
+use Rattle.session_interface.proofs.Savings.{saved-is}
 use Rattle.klaverdomp.proofs.sessions.klaverdomp_session_append_1.Statement.{statement}
 use Rattle.klaverdomp.proofs.sessions.klaverdomp_session_append_1.Tie as tie
 

@@ -1,7 +1,7 @@
 -- `klaverdomp::sessions::klaverdomp_session_load_1` meets its contract: the reading, reported with the caches. Assumes nothing.
 use borrow.Author.Needs.{needs}
 use Rattle.session_interface.proofs.Readings.{load→holds}
-use Rattle.klaverdomp.proofs.Savings.{loaded-is}
+use Rattle.session_interface.proofs.Savings.{loaded-is}
 use Rattle.klaverdomp.proofs.sessions.klaverdomp_session_load_1.Statement.{statement}
 use Rattle.klaverdomp.proofs.sessions.klaverdomp_session_load_1.Tie as tie
 

@@ -1,0 +1,1 @@
+// Small random calls and capped scores by computation, against an independent reference. No functions.

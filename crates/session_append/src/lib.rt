@@ -1,0 +1,63 @@
+// Adds positions to the file of a saved session, all of them or none. `append` takes any numbers and any buffer.
+ghost use mathlib.Core.Path.{_≡_};
+ghost use mathlib.Core.Bool.{true};
+ghost use Prim.Native.Nat.{_≤_};
+ghost use Rattle.session_file.specs.Sizes.{sizesHold};
+ghost use Rattle.session_file.specs.declared.Reading.the-variants.{Session as SessionRead};
+ghost use Rattle.session_file.specs.Writer.{written, appendedTo, appendOf};
+use session_file::Reading;
+use session_file::Refusal;
+use session_file::Saving;
+use session_file::Sizes;
+
+// Positions behind the last whole record of a file that has n whole positions of those sizes.
+fn append_to(
+    buffer: &mut [u8],
+    sizes: Sizes,
+    n: usize,
+    count: usize,
+    keys: &[f32],
+    values: &[f32],
+) -> Saving
+    requires { ⌜ sizesHold sizes ≡ true ⌝ }
+    requires { ⌜ n ≤ 2048 ⌝ }
+    ensures { λ r. ⌜ written r (now (buffer .exit)) ≡ appendedTo (SessionRead sizes n) (now (buffer .entry)) count (now (keys .entry)) (now (values .entry)) ⌝ }
+{
+    if 2048 - n < count {
+        return Saving::Refused(Refusal::Limits);
+    }
+    if !session_sizes::caches_fit(sizes, count, keys.len(), values.len()) {
+        return Saving::Refused(Refusal::InputLength);
+    }
+    let fault = session_rows::first_fault(keys, values, sizes, count);
+    if fault < count {
+        return Saving::Refused(Refusal::Element {
+            position: n + fault,
+        });
+    }
+    let from = session_sizes::position_at(sizes, n);
+    let to = session_sizes::position_at(sizes, n + count);
+    if buffer.len() < to {
+        return Saving::Refused(Refusal::Room);
+    }
+    session_positions::write_positions(keys, values, sizes, count, &mut buffer[from..to]);
+    Saving::Saved {
+        positions: n + count,
+        used: to,
+    }
+}
+
+// Adds `count` positions behind the last whole record of the file that is the first `used` bytes of the buffer.
+pub fn append(buffer: &mut [u8], used: usize, count: usize, keys: &[f32], values: &[f32]) -> Saving
+    ensures { λ r. ⌜ written r (now (buffer .exit)) ≡ appendOf (now (buffer .entry)) used count (now (keys .entry)) (now (values .entry)) ⌝ }
+{
+    if buffer.len() < used {
+        return Saving::Refused(Refusal::Room);
+    }
+    match session_inspect::inspect(&buffer[..used]) {
+        Reading::Refused(refusal) => Saving::Refused(refusal),
+        Reading::Session { sizes, positions } => {
+            append_to(buffer, sizes, positions, count, keys, values)
+        }
+    }
+}

@@ -1,0 +1,65 @@
+-- `session_sizes::sizes_hold` meets its contract: its four tests are the definition's. Assumes nothing.
+use mathlib.Core.Path.{sym, _∙_}
+use borrow.Author.Needs.{needs}
+use Rattle.session_file.specs.Sizes.{sizesHold}
+use Rattle.session_sizes.proofs.sizes_hold.Statement.{statement}
+use Rattle.session_sizes.proofs.sizes_hold.Tie as tie
+
+within-requires : tie.Need-within-requires
+within-requires c κs = search needs
+
+within-requires-2 : tie.Need-within-requires-2
+within-requires-2 c κs = search needs
+
+within-requires-3 : tie.Need-within-requires-3
+within-requires-3 c κs = search needs
+
+within-requires-4 : tie.Need-within-requires-4
+within-requires-4 c κs = search needs
+
+returns : tie.Need-returns
+unfolding sizesHold
+returns c =
+    let c3 = c .before in
+    let c2 = c3 .before .before in
+    let c1 = c2 .before .before in
+    c .within4 .ensures
+    ∙ rw (
+      sym (c1 .before .within .ensures) ∙ c1 .if1 .taken,
+      sym (c2 .before .within2 .ensures) ∙ c2 .if2 .taken,
+      sym (c3 .before .within3 .ensures) ∙ c3 .if3 .taken,
+    )
+
+returns-2 : tie.Need-returns-2
+unfolding sizesHold
+returns-2 c =
+    let c2 = c .before .before in
+    let c1 = c2 .before .before in
+    rw (
+      sym (c1 .before .within .ensures) ∙ c1 .if1 .taken,
+      sym (c2 .before .within2 .ensures) ∙ c2 .if2 .taken,
+      sym (c .before .within3 .ensures) ∙ c .if3 .left,
+    )
+
+returns-3 : tie.Need-returns-3
+unfolding sizesHold
+returns-3 c =
+    let c1 = c .before .before in
+    rw (sym (c1 .before .within .ensures) ∙ c1 .if1 .taken, sym (c .before .within2 .ensures) ∙ c .if2 .left)
+
+returns-4 : tie.Need-returns-4
+unfolding sizesHold
+returns-4 c = rw (sym (c .before .within .ensures) ∙ c .if1 .left)
+
+pub sizes-hold-spec : {M : Type 1} → statement M
+sizes-hold-spec =
+    tie.close
+    (tie.spec
+    within-requires
+    within-requires-2
+    within-requires-3
+    within-requires-4
+    returns
+    returns-2
+    returns-3
+    returns-4)
