@@ -1,2 +1,3 @@
 pub mod NoCall
 pub mod Reported
+pub mod Told
