@@ -1,6 +1,6 @@
 """Stored vectors: lists and random generators of calls, with the answers and the bits of the C reference (reference/).
 
-    python3 tools/vectors.py vectors    crates/examples/proofs/Vectors.antt: random calls with their outcomes and scores
+    python3 tools/vectors.py vectors    crates/example_vectors/proofs/Vectors.antt: random calls with their outcomes and scores
                                         under caps, as claims
     python3 tools/vectors.py dots       crates/softmax/proofs/DotExamples.antt: dot products, as claims
     python3 tools/vectors.py calls      crates/call_examples/stdin: the calls of call_examples.py
