@@ -1,40 +1,17 @@
 // Steps 2 to 4 of one row of attention on its lists: the mask and the cap, softmax, and the scores shown.
 ghost use mathlib.Core.Path.{_≡_};
-ghost use Prim.Native.Nat.{ℕ, _+_, _≤_};
-ghost use mathlib.Core.Bool.{true};
+ghost use Prim.Native.Nat.{_+_, _≤_};
 ghost use lib.Dec.{T};
 ghost use lib.ListN.{length, take};
 ghost use Rattle.softmax.specs.Lists.{isScoreRow};
 ghost use Rattle.softmax.specs.Cap.{cappedRowWhere};
 ghost use Rattle.call.specs.Lengths.{inScores};
 ghost use Rattle.attention.specs.Admission.{repeated};
-ghost use Rattle.row_steps.specs.Steps.{maskedRowBy, maskRowFits, showsOf, CapDone, SoftmaxDone};
+ghost use Rattle.row_steps.specs.Steps.{maskedRowBy, maskRowFits, SoftmaxDone};
 use call::MaskKind;
 use call::ScoreMode;
 use row_shown::show;
 use row_shown::shows;
-
-// Step 2 on a row of scores, and then the cap. The scores under the mask are shown in mode 1, and those under the cap in mode 2.
-fn mask_and_cap(
-    kind: MaskKind,
-    bytes: &[u8],
-    cells: &[f32],
-    at: usize,
-    width: usize,
-    softcap: f32,
-    mode: ScoreMode,
-    shown: &mut [f32],
-    row: &mut [f32],
-)
-    requires { ⌜ maskRowFits kind (length (now bytes)) (length (now cells)) at width (length (now row)) ⌝ }
-    requires { ⌜ ((low high : ℕ) → showsOf mode low high ≡ true → length (now row) ≤ length (now shown)) ⌝ }
-    ensures { λ _. ⌜ CapDone mode softcap (maskedRowBy kind (now (bytes .entry)) (now (cells .entry)) (λ j. at + repeated width j) (now (row .entry))) (now (shown .entry)) (now (shown .exit)) (now (row .exit)) ⌝ }
-{
-    row_mask::mask_row(kind, bytes, cells, at, width, row);
-    show(shows(mode, 1, 1), row, -f32::from_bits(0x7f800000), shown);
-    score_cap::cap_row(row, softcap);
-    show(shows(mode, 2, 2), row, -f32::from_bits(0x7f800000), shown);
-}
 
 // Steps 2 to 4 on a scratch row whose first n elements are scores: the mask and the cap on them, softmax, and +0 behind. The scores under the mask are shown in mode 1, those under the cap in mode 2, and the weights in mode 3. Tells whether the row is fully masked.
 pub fn softmax_masked(
@@ -55,7 +32,7 @@ pub fn softmax_masked(
     requires { ⌜ length (now shown) ≡ inScores mode (length (now work)) ⌝ }
     ensures { λ r. ⌜ SoftmaxDone mode softcap (maskedRowBy kind (now (bytes .entry)) (now (cells .entry)) (λ j. at + repeated width j) (take n (now (work .entry)))) (now (shown .entry)) (length (now (work .entry))) (now (shown .exit)) (now (work .exit)) r ⌝ }
 {
-    mask_and_cap(
+    row_capped::mask_and_cap(
         kind,
         bytes,
         cells,

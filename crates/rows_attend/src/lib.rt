@@ -41,7 +41,7 @@ pub fn attend_row<'a>(
     let m = rows_numbers::scored(dots, count, n);
     let a = caches_rows::row_start(call.rank, call.qheads, call.qlen, call.size, b, h, i);
     let e = a + call.size;
-    row_runs::score_row(
+    row_scores::score_row(
         call,
         scale,
         &query[a..e],
@@ -67,7 +67,7 @@ pub fn attend_row<'a>(
         shown,
         work,
     );
-    row_runs::output_row(
+    row_output::output_row(
         call,
         boolmask,
         floatmask,

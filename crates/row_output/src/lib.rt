@@ -1,0 +1,123 @@
+// The output of a row, over the past's positions and then the incoming ones.
+ghost use mathlib.Core.Path.{_≡_};
+ghost use Prim.Native.Nat.{ℕ, _+_, _≤_, _<_};
+ghost use lib.ListN.{length, replicate};
+ghost use Rattle.exponential.specs.ExpNeg.{plusZero};
+ghost use Rattle.softmax.specs.Lists.{elementOf};
+ghost use Rattle.call.specs.Limits.{totalOf};
+ghost use Rattle.attention.specs.Elements.{positionCell};
+ghost use Rattle.attention.specs.Admission.{repeated};
+ghost use Rattle.admitted_sum.specs.Sums.{maskHas, admittedBy, addedRowOf};
+ghost use Rattle.row_runs.specs.Runs.{RunFits};
+use call::Call;
+
+// The output row with the weighted values of the admitted positions from `from` on added, as many as there are weights, all in one of the two tensors.
+fn weigh_run<'a>(
+    call: Call,
+    bytes: &[u8],
+    cells: &[f32],
+    at: usize,
+    past: &'a [f32],
+    incoming: &'a [f32],
+    b: usize,
+    g: usize,
+    from: usize,
+    weights: &[f32],
+    out: &mut [f32],
+)
+    requires { ⌜ length (now out) ≡ call .vsize ⌝ }
+    requires { ⌜ RunFits call (length (now past)) (length (now incoming)) (call .vsize) b g from (length (now weights)) ⌝ }
+    requires { ⌜ (at + from + length (now weights) < 0x100000000) × ((k : ℕ) → k < from + length (now weights) → maskHas (call .mask) (length (now bytes)) (length (now cells)) (at + repeated (call .maskk) k)) ⌝ }
+    ensures { λ _. ⌜ now (out .exit) ≡ addedRowOf (length (now (weights .entry))) (λ j. admittedBy (call .mask) (now (bytes .entry)) (now (cells .entry)) (at + repeated (call .maskk) (from + j))) (elementOf (now (weights .entry))) (λ j k. positionCell call (now (past .entry)) (now (incoming .entry)) (call .vsize) b g (from + j) k) (now (out .entry)) ⌝ }
+{
+    if weights.len() == 0 {
+        return;
+    }
+    let size = call.vsize;
+    let kind = call.mask;
+    let values = caches_rows::rows_from(call, past, incoming, size, b, g, from);
+    let stride = caches_rows::row_stride(call, size, from);
+    admitted_sum::weigh_admitted(
+        kind,
+        bytes,
+        cells,
+        at,
+        call.maskk,
+        from,
+        weights,
+        values,
+        stride,
+        out,
+    );
+}
+
+// The output row with the weighted values of the admitted positions from 0 on added, as many as there are weights: those of the past cache, then those of the incoming tensor.
+fn weigh_positions<'a>(
+    call: Call,
+    bytes: &[u8],
+    cells: &[f32],
+    at: usize,
+    past: &'a [f32],
+    incoming: &'a [f32],
+    b: usize,
+    g: usize,
+    weights: &[f32],
+    out: &mut [f32],
+)
+    requires { ⌜ length (now out) ≡ call .vsize ⌝ }
+    requires { ⌜ RunFits call (length (now past)) (length (now incoming)) (call .vsize) b g (call .past) 0 ⌝ }
+    requires { ⌜ length (now weights) ≤ totalOf call ⌝ }
+    requires { ⌜ (at + length (now weights) < 0x100000000) × ((k : ℕ) → k < length (now weights) → maskHas (call .mask) (length (now bytes)) (length (now cells)) (at + repeated (call .maskk) k)) ⌝ }
+    ensures { λ _. ⌜ now (out .exit) ≡ addedRowOf (length (now (weights .entry))) (λ j. admittedBy (call .mask) (now (bytes .entry)) (now (cells .entry)) (at + repeated (call .maskk) j)) (elementOf (now (weights .entry))) (λ j k. positionCell call (now (past .entry)) (now (incoming .entry)) (call .vsize) b g j k) (now (out .entry)) ⌝ }
+{
+    let cut = row_scores::smaller(call.past, weights.len());
+    weigh_run(
+        call,
+        bytes,
+        cells,
+        at,
+        past,
+        incoming,
+        b,
+        g,
+        0,
+        &weights[..cut],
+        out,
+    );
+    weigh_run(
+        call,
+        bytes,
+        cells,
+        at,
+        past,
+        incoming,
+        b,
+        g,
+        cut,
+        &weights[cut..],
+        out,
+    );
+}
+
+// The output row: from +0, the weighted values of the admitted positions from 0 on, as many as there are weights.
+pub fn output_row<'a>(
+    call: Call,
+    bytes: &[u8],
+    cells: &[f32],
+    at: usize,
+    past: &'a [f32],
+    incoming: &'a [f32],
+    b: usize,
+    g: usize,
+    weights: &[f32],
+    out: &mut [f32],
+)
+    requires { ⌜ length (now out) ≡ call .vsize ⌝ }
+    requires { ⌜ RunFits call (length (now past)) (length (now incoming)) (call .vsize) b g (call .past) 0 ⌝ }
+    requires { ⌜ length (now weights) ≤ totalOf call ⌝ }
+    requires { ⌜ (at + length (now weights) < 0x100000000) × ((k : ℕ) → k < length (now weights) → maskHas (call .mask) (length (now bytes)) (length (now cells)) (at + repeated (call .maskk) k)) ⌝ }
+    ensures { λ _. ⌜ now (out .exit) ≡ addedRowOf (length (now (weights .entry))) (λ j. admittedBy (call .mask) (now (bytes .entry)) (now (cells .entry)) (at + repeated (call .maskk) j)) (elementOf (now (weights .entry))) (λ j k. positionCell call (now (past .entry)) (now (incoming .entry)) (call .vsize) b g j k) (replicate (call .vsize) plusZero) ⌝ }
+{
+    row_copies::fill_row(out, 0.0);
+    weigh_positions(call, bytes, cells, at, past, incoming, b, g, weights, out);
+}
