@@ -336,13 +336,15 @@ use Rattle.call.specs.declared.Call.{Call}
 use Rattle.call.specs.declared.Form.{Form}
 use Rattle.call.specs.declared.Form.the-variants.{Plain, Cached, Counted}
 use Rattle.call.specs.declared.MaskKind.{MaskKind}
-use Rattle.call.specs.declared.MaskKind.the-variants.{NoMask, Boolean, Float as FloatMask}
+use Rattle.call.specs.declared.MaskKind.the-variants.{NoMask, Boolean, FloatMask}
 use Rattle.call.specs.declared.Scale.{Scale}
 use Rattle.call.specs.declared.Scale.the-variants.{Absent, Given}
 use Rattle.call.specs.declared.ScoreMode.{ScoreMode}
 use Rattle.call.specs.declared.ScoreMode.the-variants.{NoScores, Mode}
-use Rattle.call.specs.declared.Answer.{Answer}
-use Rattle.call.specs.declared.Answer.the-variants.{Limits, HeadGroups, Settings, MaskShape, InputLength, OutputLength, LiveCount, MaskCell, Element}
+use Rattle.call.specs.declared.Answer.the-variants.{NotDone}
+use Rattle.call.specs.declared.Refusal.{Refusal}
+use Rattle.call.specs.declared.Refusal.the-variants.{Limits, HeadGroups, Settings, MaskShape, InputLength, OutputLength, LiveCount, MaskCell, Element}
+use Rattle.call.specs.Parts.{callWith}
 use Rattle.call.specs.Tensors.{Inputs, Outputs}
 use Rattle.attention.specs.Outcomes.{attentionOf}
 use Rattle.attention.specs.Calls.{tensors, done}
@@ -351,27 +353,7 @@ use Rattle.attention.specs.Table.{Claim, outcome, underCap, AllHold}
 -- the cap's bits; rank and causal flag; B, Hq, Hkv; Sq, Sk, P; D, Dv; the mask's dimensions
 unfoldable call : Form → MaskKind → Scale → ScoreMode → (softcap rank causal batches qheads kvheads qlen klen past size vsize maskb maskh maskq maskk : ℕ) → Call
 unfolding ofBits
-call form mask scale mode softcap rank causal batches qheads kvheads qlen klen past size vsize maskb maskh maskq maskk = record {
-  form = form;
-  mask = mask;
-  scale = scale;
-  softcap = ofBits binary32 softcap;
-  mode = mode;
-  rank = rank;
-  causal = causal;
-  batches = batches;
-  qheads = qheads;
-  kvheads = kvheads;
-  qlen = qlen;
-  klen = klen;
-  past = past;
-  size = size;
-  vsize = vsize;
-  maskb = maskb;
-  maskh = maskh;
-  maskq = maskq;
-  maskk = maskk;
-}
+call form mask scale mode softcap rank causal batches qheads kvheads qlen klen past size vsize maskb maskh maskq maskk = callWith form mask scale (ofBits binary32 softcap) mode rank causal batches qheads kvheads qlen klen past size vsize maskb maskh maskq maskk
 
 unfoldable given : ℕ → Scale
 unfolding ofBits
@@ -405,9 +387,9 @@ unfolding floats
 accepted c x y total masked output presentKey presentValue scores work =
     outcome c x y (done total masked (tensors (floats output) (floats presentKey) (floats presentValue) (floats scores) (floats work)))
 
--- the call is refused with this answer, and the tensors stay as they were lent
-abbrev refused : Call → Inputs → Outputs → Answer → Claim
-refused c x y answer = outcome c x y (record { answer = answer; tensors = y })
+-- the call is refused, and the tensors stay as they were lent
+abbrev refused : Call → Inputs → Outputs → Refusal → Claim
+refused c x y r = outcome c x y (record { answer = NotDone r; tensors = y })
 """
 
 DOT_HEADER = """-- Dot products of rows of 1 to 18 elements: the definition gives them the bits of a reference written from the rules. Floats are f32 bits.
@@ -439,7 +421,7 @@ under cap score capped = underCap (ofBits binary32 cap) (ofBits binary32 score) 
 NO_BREAK = "\u00a0"
 FORM_TEXT = {"plain": "Plain", "cached": "Cached", "counted": "Counted"}
 KIND_TEXT = {"none": "NoMask", "boolean": "Boolean", "float": "FloatMask"}
-ANSWER_TEXT = ("Limits", "HeadGroups", "Settings", "MaskShape", "InputLength", "OutputLength", "(LiveCount {index})",
+REFUSAL_TEXT = ("Limits", "HeadGroups", "Settings", "MaskShape", "InputLength", "OutputLength", "(LiveCount {index})",
                "(MaskCell {index})", "(Element {tensor} {index})")
 
 
@@ -472,7 +454,7 @@ def claim_text(r, inputs, outputs):
     if number == 0:
         name, expected = "accepted", f"{total} {masked_rows} {tensors_text(made)}"
     else:
-        name, expected = "refused", ANSWER_TEXT[number - 1].format(tensor=tensor, index=index)
+        name, expected = "refused", REFUSAL_TEXT[number - 1].format(tensor=tensor, index=index)
         assert tensors_text(made) == tensors_text(outputs)
     return [f"{name} (call {FORM_TEXT[r.form]} {KIND_TEXT[r.mask_kind]} {scale} {mode} {' '.join(map(str, numbers))})",
             f"(reading {tensors_text(inputs)})",

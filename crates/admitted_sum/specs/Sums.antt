@@ -10,7 +10,7 @@ use Rattle.tensor_laws.specs.Layout.{tabulate}
 use Rattle.softmax.specs.Row.{addWhere}
 use Rattle.softmax.specs.Lists.{elementOf, isHidden}
 use Rattle.call.specs.declared.MaskKind.{MaskKind}
-use Rattle.call.specs.declared.MaskKind.the-variants.{NoMask, Boolean, Float as FloatMask}
+use Rattle.call.specs.declared.MaskKind.the-variants.{NoMask, Boolean, FloatMask}
 
 -- ---- the mask
 

@@ -15,7 +15,7 @@ fn admitted(kind: MaskKind, bytes: &[u8], cells: &[f32], at: usize) -> bool
     match kind {
         MaskKind::NoMask => true,
         MaskKind::Boolean => bytes[at] != 0,
-        MaskKind::Float => cells[at] != -f32::from_bits(0x7f800000),
+        MaskKind::FloatMask => cells[at] != -f32::from_bits(0x7f800000),
     }
 }
 

@@ -16,7 +16,7 @@ use Rattle.softmax.proofs.Bounds.{bounded, scoreBound, bounded-finite, score-bo
 use Rattle.softmax.proofs.Cap.{under-cap-finite}
 use Rattle.call.specs.declared.Call.{Call}
 use Rattle.call.specs.declared.MaskKind.{MaskKind}
-use Rattle.call.specs.declared.MaskKind.the-variants.{NoMask, Boolean, Float as FloatMask}
+use Rattle.call.specs.declared.MaskKind.the-variants.{NoMask, Boolean, FloatMask}
 use Rattle.call.specs.Tensors.{Inputs, Outputs}
 use Rattle.call.specs.Limits.{totalOf, maskShapeHolds}
 use Rattle.call.specs.Lengths.{inFloat, maskLength}
@@ -40,12 +40,12 @@ pub admits→live : (c : Call) (x : Inputs) (b h i j : ℕ) → admits c x b h i
 unfolding admits
 admits→live c x b h i j e =
     let l = ltb j (liveOf c (x .live) b) in
-    ltb→lt j (liveOf c (x .live) b) (and-l l (causalAdmits c i j) (and-l (l && causalAdmits c i j) (maskAdmits (c .mask) c x b h i j) (holds e)))
+    ltb→lt j (liveOf c (x .live) b) (and-l l (causalAdmits c (liveOf c (x .live) b) i j) (and-l (l && causalAdmits c (liveOf c (x .live) b) i j) (maskAdmits (c .mask) c x b h i j) (holds e)))
 
 -- the mask admits an admitted key
 pub admits→mask : (c : Call) (x : Inputs) (b h i j : ℕ) → admits c x b h i j ≡ true → T (maskAdmits (c .mask) c x b h i j)
 unfolding admits
-admits→mask c x b h i j e = and-r (ltb j (liveOf c (x .live) b) && causalAdmits c i j) (maskAdmits (c .mask) c x b h i j) (holds e)
+admits→mask c x b h i j e = and-r (ltb j (liveOf c (x .live) b) && causalAdmits c (liveOf c (x .live) b) i j) (maskAdmits (c .mask) c x b h i j) (holds e)
 
 -- ---- where a mask's cell stands
 

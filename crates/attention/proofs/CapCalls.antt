@@ -7,7 +7,7 @@ use Rattle.exponential.specs.ExpNeg.{plusZero, one}
 use Rattle.softmax.specs.Lists.{hidden}
 use Rattle.call.specs.declared.Call.{Call}
 use Rattle.call.specs.declared.Form.the-variants.{Plain}
-use Rattle.call.specs.declared.MaskKind.the-variants.{Boolean, Float as FloatMask}
+use Rattle.call.specs.declared.MaskKind.the-variants.{Boolean, FloatMask}
 use Rattle.call.specs.declared.ScoreMode.the-variants.{Mode}
 use Rattle.call.specs.Tensors.{Inputs, Outputs, inputsOf}
 use Rattle.call.proofs.CapEdges.{withCap}

@@ -7,7 +7,8 @@ use lib.ListN.{length}
 use Rattle.tensor_laws.proofs.Tabulate.{none-long}
 use Rattle.call.specs.declared.Call.{Call}
 use Rattle.call.specs.declared.Answer.{Answer}
-use Rattle.call.specs.declared.Answer.the-variants.{Profile}
+use Rattle.call.specs.declared.Answer.the-variants.{NotDone}
+use Rattle.call.specs.declared.Refusal.the-variants.{Profile}
 use Rattle.call.specs.Tensors.{Inputs, Outputs, outputsOf}
 use Rattle.call.specs.Profile.{Entry, general, step, profileHolds, takes}
 use Rattle.attention.specs.Outcomes.{Outcome, outcomeOf, attentionOf}
@@ -20,7 +21,7 @@ module _ (c : Call) (x : Inputs) (y : Outputs) where
   unfolding stepOf
   step-profile h = rw h
 
-  pub step-other : profileHolds c ≡ false → stepOf c x y ≡ outcomeOf Profile y
+  pub step-other : profileHolds c ≡ false → stepOf c x y ≡ outcomeOf (NotDone Profile) y
   unfolding stepOf
   step-other h = rw h
 
@@ -29,7 +30,7 @@ module _ (c : Call) (x : Inputs) (y : Outputs) where
   taken-outcome general h = refl
   taken-outcome step h = step-profile h
 
-  pub not-taken-outcome : (e : Entry) → takes e c ≡ false → outcomeAt e c x y ≡ outcomeOf Profile y
+  pub not-taken-outcome : (e : Entry) → takes e c ≡ false → outcomeAt e c x y ≡ outcomeOf (NotDone Profile) y
   not-taken-outcome general h = absurd (true≢false h)
   not-taken-outcome step h = step-other h
 

@@ -14,6 +14,7 @@ use Rattle.call.specs.declared.Scale.{Scale}
 use Rattle.call.specs.declared.Scale.the-variants.{Given}
 use Rattle.call.specs.declared.ScoreMode.{ScoreMode}
 use Rattle.call.specs.declared.ScoreMode.the-variants.{NoScores}
+use Rattle.call.specs.Parts.{callWith}
 use Rattle.call.specs.Tensors.{Inputs, Outputs}
 use Rattle.attention.specs.Outcomes.{Outcome}
 use Rattle.attention.specs.Calls.{number, lending, lendingPast, tensors, zeros, done}
@@ -100,99 +101,19 @@ minusTiny = fin true 1 (negsuc 148)
 
 -- one batch without a mask, D = 1, scale 1: the form, the mode, the rank, the causal flag, Hq, Hkv, Sq, Sk, P and Dv
 abbrev pub heads : Form → ScoreMode → (rank causal qheads kvheads qlen klen past vsize : ℕ) → Call
-heads form mode rank causal qheads kvheads qlen klen past vsize = record {
-  form = form;
-  mask = NoMask;
-  scale = Given one;
-  softcap = plusZero;
-  mode = mode;
-  rank = rank;
-  causal = causal;
-  batches = 1;
-  qheads = qheads;
-  kvheads = kvheads;
-  qlen = qlen;
-  klen = klen;
-  past = past;
-  size = 1;
-  vsize = vsize;
-  maskb = 1;
-  maskh = 1;
-  maskq = 1;
-  maskk = 1;
-}
+heads form mode rank causal qheads kvheads qlen klen past vsize = callWith form NoMask (Given one) plusZero mode rank causal 1 qheads kvheads qlen klen past 1 vsize 1 1 1 1
 
 -- two query heads over one key head, two queries and two keys, D = Dv = 1, scale 1: the batches, and the mask's kind and dimensions
 abbrev pub masked : MaskKind → (batches maskb maskh maskq maskk : ℕ) → Call
-masked kind batches maskb maskh maskq maskk = record {
-  form = Plain;
-  mask = kind;
-  scale = Given one;
-  softcap = plusZero;
-  mode = NoScores;
-  rank = 4;
-  causal = 0;
-  batches = batches;
-  qheads = 2;
-  kvheads = 1;
-  qlen = 2;
-  klen = 2;
-  past = 0;
-  size = 1;
-  vsize = 1;
-  maskb = maskb;
-  maskh = maskh;
-  maskq = maskq;
-  maskk = maskk;
-}
+masked kind batches maskb maskh maskq maskk = callWith Plain kind (Given one) plusZero NoScores 4 0 batches 2 1 2 2 0 1 1 maskb maskh maskq maskk
 
 -- one query and one key, rank 4, Dv = 1: the mask kind, the scale, the mode and D
 abbrev pub scaled : MaskKind → Scale → ScoreMode → ℕ → Call
-scaled kind scale mode size = record {
-  form = Plain;
-  mask = kind;
-  scale = scale;
-  softcap = plusZero;
-  mode = mode;
-  rank = 4;
-  causal = 0;
-  batches = 1;
-  qheads = 1;
-  kvheads = 1;
-  qlen = 1;
-  klen = 1;
-  past = 0;
-  size = size;
-  vsize = 1;
-  maskb = 1;
-  maskh = 1;
-  maskq = 1;
-  maskk = 1;
-}
+scaled kind scale mode size = callWith Plain kind scale plusZero mode 4 0 1 1 1 1 1 0 size 1 1 1 1 1
 
 -- two batches of two queries and one key, counted
 abbrev pub batched : Call
-batched = record {
-  form = Counted;
-  mask = NoMask;
-  scale = Given one;
-  softcap = plusZero;
-  mode = NoScores;
-  rank = 4;
-  causal = 0;
-  batches = 2;
-  qheads = 1;
-  kvheads = 1;
-  qlen = 2;
-  klen = 1;
-  past = 0;
-  size = 1;
-  vsize = 1;
-  maskb = 1;
-  maskh = 1;
-  maskq = 1;
-  maskk = 1;
-}
+batched = callWith Counted NoMask (Given one) plusZero NoScores 4 0 2 1 1 2 1 0 1 1 1 1 1 1
 
 -- ---- what is lent
 

@@ -8,10 +8,11 @@ use lib.Ieee.{nan, binary32, ofBits}
 use Rattle.exponential.specs.ExpNeg.{plusZero, one}
 use Rattle.softmax.specs.Lists.{hidden}
 use Rattle.call.specs.declared.Form.the-variants.{Plain, Cached, Counted}
-use Rattle.call.specs.declared.MaskKind.the-variants.{NoMask, Boolean, Float as FloatMask}
+use Rattle.call.specs.declared.MaskKind.the-variants.{NoMask, Boolean, FloatMask}
 use Rattle.call.specs.declared.Scale.the-variants.{Absent, Given}
 use Rattle.call.specs.declared.ScoreMode.the-variants.{NoScores, Mode}
-use Rattle.call.specs.declared.Answer.the-variants.{Element}
+use Rattle.call.specs.declared.Answer.the-variants.{NotDone}
+use Rattle.call.specs.declared.Refusal.the-variants.{Element}
 use Rattle.attention.specs.Outcomes.{attentionOf}
 use Rattle.attention.specs.Calls.{small, lending, tensors, zeros, done}
 use Rattle.attention.specs.Table.{half}
@@ -162,7 +163,7 @@ scales-hold = record {
 
 pub record KeptHold : Type 0 where
   -- a refused call, of a query that is NaN, leaves every tensor as it came in
-  pub refused : attentionOf (small Plain NoMask (Mode 0) 0 0 1 1) (lending (nan ∷ []) (one ∷ []) (one ∷ []) []) (tensors (seven ∷ []) [] [] (nan ∷ []) (eight ∷ [])) ≡ record { answer = Element 0 0; tensors = tensors (seven ∷ []) [] [] (nan ∷ []) (eight ∷ []) }
+  pub refused : attentionOf (small Plain NoMask (Mode 0) 0 0 1 1) (lending (nan ∷ []) (one ∷ []) (one ∷ []) []) (tensors (seven ∷ []) [] [] (nan ∷ []) (eight ∷ [])) ≡ record { answer = NotDone (Element 0 0); tensors = tensors (seven ∷ []) [] [] (nan ∷ []) (eight ∷ []) }
 
 pub kept-hold : KeptHold
 unfolding attentionOf

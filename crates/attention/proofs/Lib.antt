@@ -2,6 +2,7 @@ pub mod Starred
 pub mod LayoutCalls
 pub mod Layouts
 pub mod Outcome
+pub mod Reached
 pub mod Causal
 pub mod Facts
 pub mod Bounded

@@ -7,8 +7,8 @@ use Rattle.tensor_laws.proofs.Cells.{getD-tensorOf, tensorOf-ext}
 use Rattle.call.specs.declared.Call.{Call}
 use Rattle.call.specs.declared.Form.{Form}
 use Rattle.call.specs.declared.Form.the-variants.{Cached}
-use Rattle.call.specs.declared.Answer.{Answer}
-use Rattle.call.specs.declared.Answer.the-variants.{Done}
+use Rattle.call.specs.declared.Refusal.{Refusal}
+use Rattle.call.specs.declared.Answer.the-variants.{Done, NotDone}
 use Rattle.call.specs.declared.Verdict.{Verdict}
 use Rattle.call.specs.declared.Verdict.the-variants.{Accepted, Refused}
 use Rattle.call.specs.Limits.{totalOf}
@@ -21,9 +21,9 @@ use Rattle.attention.specs.Outcomes.{whereCached, outputTensor, presentK
 -- ---- by the verdict
 
 -- a refused call answers its refusal, and every tensor lent for writing goes out as it came in
-pub refused-outcome : (c : Call) (x : Inputs) (y : Outputs) (a : Answer) → verdictOf c x y ≡ Refused a → attentionOf c x y ≡ record { answer = a; tensors = y }
+pub refused-outcome : (c : Call) (x : Inputs) (y : Outputs) (r : Refusal) → verdictOf c x y ≡ Refused r → attentionOf c x y ≡ record { answer = NotDone r; tensors = y }
 unfolding attentionOf outcomeWhere
-refused-outcome c x y a e = ap (λ (v : Verdict). outcomeWhere v c x y) e
+refused-outcome c x y r e = ap (λ (v : Verdict). outcomeWhere v c x y) e
 
 -- the outcome of an accepted call looks at the tensors that are read alone
 pub accepted-outcome : (c : Call) (x : Inputs) (y : Outputs) → verdictOf c x y ≡ Accepted → attentionOf c x y ≡ acceptedOf c x

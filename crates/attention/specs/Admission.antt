@@ -6,8 +6,10 @@ use lib.ListN.{getD}
 use lib.Ieee.{Float}
 use Rattle.softmax.specs.Lists.{elementOf, isHidden}
 use Rattle.call.specs.declared.Call.{Call}
+use Rattle.call.specs.declared.Form.{Form}
+use Rattle.call.specs.declared.Form.the-variants.{Plain, Cached, Counted}
 use Rattle.call.specs.declared.MaskKind.{MaskKind}
-use Rattle.call.specs.declared.MaskKind.the-variants.{NoMask, Boolean, Float as FloatMask}
+use Rattle.call.specs.declared.MaskKind.the-variants.{NoMask, Boolean, FloatMask}
 use Rattle.call.specs.Tensors.{Inputs}
 use Rattle.call.specs.Contents.{liveOf}
 
@@ -28,10 +30,23 @@ maskAdmits NoMask c x b h i j = true
 maskAdmits Boolean c x b h i j = not (eqb (getD (x .boolMask) (maskIndex c b h i j) 0) 0)
 maskAdmits FloatMask c x b h i j = not (isHidden (maskCell c x b h i j))
 
--- when causal, j ≤ P + i
-abbrev pub causalAdmits : Call → (i j : ℕ) → Bool
-causalAdmits c i j = eqb (c .causal) 0 || leb j (c .past + i)
+-- ---- the last causal position of a row
+
+-- As two numbers: row i admits position j where j, as it is shifted, is no more than the row reaches. In each form that is j ≤ P + i.
+abbrev pub reach : Form → (p live i : ℕ) → ℕ
+reach Plain p live i = p + i
+reach Cached p live i = p + i
+reach Counted p live i = p + i
+
+abbrev pub shifted : Form → (sq j : ℕ) → ℕ
+shifted Plain sq j = j
+shifted Cached sq j = j
+shifted Counted sq j = j
+
+-- when causal, up to the last causal position
+abbrev pub causalAdmits : Call → (live i j : ℕ) → Bool
+causalAdmits c live i j = eqb (c .causal) 0 || leb (shifted (c .form) (c .qlen) j) (reach (c .form) (c .past) live i)
 
 -- row (b, h, i) admits key j
 unfoldable pub admits : Call → Inputs → (b h i j : ℕ) → Bool
-admits c x b h i j = ltb j (liveOf c (x .live) b) && causalAdmits c i j && maskAdmits (c .mask) c x b h i j
+admits c x b h i j = ltb j (liveOf c (x .live) b) && causalAdmits c (liveOf c (x .live) b) i j && maskAdmits (c .mask) c x b h i j

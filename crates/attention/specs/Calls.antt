@@ -12,6 +12,7 @@ use Rattle.call.specs.declared.MaskKind.{MaskKind}
 use Rattle.call.specs.declared.Scale.the-variants.{Given}
 use Rattle.call.specs.declared.ScoreMode.{ScoreMode}
 use Rattle.call.specs.declared.Answer.the-variants.{Done}
+use Rattle.call.specs.Parts.{callWith}
 use Rattle.call.specs.Tensors.{Inputs, Outputs, inputsOf, outputsOf}
 use Rattle.attention.specs.Outcomes.{Outcome, outcomeOf}
 
@@ -21,27 +22,7 @@ number m k = fin false m (pos k)
 
 -- a small call: its form, mask kind, score mode, causal flag, P, Sq and Sk; the mask's dimensions are (1, 1, 1, Sk)
 abbrev pub small : Form → MaskKind → ScoreMode → (causal past qlen klen : ℕ) → Call
-small form mask mode causal past qlen klen = record {
-  form = form;
-  mask = mask;
-  scale = Given one;
-  softcap = plusZero;
-  mode = mode;
-  rank = 4;
-  causal = causal;
-  batches = 1;
-  qheads = 1;
-  kvheads = 1;
-  qlen = qlen;
-  klen = klen;
-  past = past;
-  size = 1;
-  vsize = 1;
-  maskb = 1;
-  maskh = 1;
-  maskq = 1;
-  maskk = klen;
-}
+small form mask mode causal past qlen klen = callWith form mask (Given one) plusZero mode 4 causal 1 1 1 qlen klen past 1 1 1 1 1 klen
 
 -- Q, K, V, and the boolean mask
 abbrev pub lending : (query key value : List Float) → List ℕ → Inputs

@@ -3,7 +3,8 @@ use mathlib.Core.List.{List, []}
 use mathlib.Core.Bool.{cond}
 use lib.Ieee.{Float}
 use Rattle.call.specs.declared.Call.{Call}
-use Rattle.call.specs.declared.Answer.the-variants.{Profile}
+use Rattle.call.specs.declared.Answer.the-variants.{NotDone}
+use Rattle.call.specs.declared.Refusal.the-variants.{Profile}
 use Rattle.call.specs.Tensors.{Inputs, Outputs, inputsOf, outputsOf}
 use Rattle.call.specs.Profile.{Entry, general, step, profileHolds}
 use Rattle.attention.specs.Outcomes.{Outcome, outcomeOf, attentionOf}
@@ -18,7 +19,7 @@ stepOutputs output presentKey presentValue work = outputsOf output presentKey pr
 -- a record of the profile has the general entry's outcome; any other is refusal 10, and every tensor is as it came in
 unfoldable pub stepOf : Call → Inputs → Outputs → Outcome
 unfolding profileHolds attentionOf
-stepOf c x y = cond (profileHolds c) (attentionOf c x y) (outcomeOf Profile y)
+stepOf c x y = cond (profileHolds c) (attentionOf c x y) (outcomeOf (NotDone Profile) y)
 
 abbrev pub outcomeAt : Entry → Call → Inputs → Outputs → Outcome
 outcomeAt general c x y = attentionOf c x y

@@ -12,7 +12,7 @@ use Rattle.softmax.specs.Lists.{hidden}
 use Rattle.softmax.specs.Cap.{cappedWhere}
 use Rattle.call.specs.declared.Call.{Call}
 use Rattle.call.specs.declared.MaskKind.{MaskKind}
-use Rattle.call.specs.declared.MaskKind.the-variants.{NoMask, Boolean, Float as FloatMask}
+use Rattle.call.specs.declared.MaskKind.the-variants.{NoMask, Boolean, FloatMask}
 use Rattle.call.specs.declared.Scale.{Scale}
 use Rattle.call.specs.declared.Scale.the-variants.{Absent, Given}
 use Rattle.call.specs.Limits.{totalOf}

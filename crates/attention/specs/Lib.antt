@@ -3,6 +3,5 @@ pub mod Admission
 pub mod Formula
 pub mod Outcomes
 pub mod Entries
-pub mod Uncapped
 pub mod Calls
 pub mod Table

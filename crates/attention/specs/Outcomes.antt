@@ -10,7 +10,7 @@ use Rattle.call.specs.declared.Form.the-variants.{Plain, Cached, Counted}
 use Rattle.call.specs.declared.ScoreMode.{ScoreMode}
 use Rattle.call.specs.declared.ScoreMode.the-variants.{NoScores, Mode}
 use Rattle.call.specs.declared.Answer.{Answer}
-use Rattle.call.specs.declared.Answer.the-variants.{Done}
+use Rattle.call.specs.declared.Answer.the-variants.{Done, NotDone}
 use Rattle.call.specs.declared.Verdict.{Verdict}
 use Rattle.call.specs.declared.Verdict.the-variants.{Accepted, Refused}
 use Rattle.call.specs.Limits.{totalOf}
@@ -96,7 +96,7 @@ acceptedOf c x = record {
 -- a refused call answers the refusal, and every tensor is as it came in
 unfoldable pub outcomeWhere : Verdict → Call → Inputs → Outputs → Outcome
 unfolding acceptedOf
-outcomeWhere (Refused a) c x y = record { answer = a; tensors = y }
+outcomeWhere (Refused r) c x y = record { answer = NotDone r; tensors = y }
 outcomeWhere Accepted c x y = acceptedOf c x
 
 unfoldable pub attentionOf : Call → Inputs → Outputs → Outcome

@@ -17,6 +17,7 @@ use Rattle.call.specs.declared.Form.the-variants.{Plain, Cached}
 use Rattle.call.specs.declared.MaskKind.the-variants.{NoMask, Boolean}
 use Rattle.call.specs.declared.Scale.the-variants.{Absent}
 use Rattle.call.specs.declared.ScoreMode.the-variants.{NoScores, Mode}
+use Rattle.call.specs.Parts.{callWith}
 use Rattle.call.specs.Tensors.{Inputs, Outputs}
 use Rattle.attention.specs.Elements.{keyHeadOf}
 use Rattle.attention.specs.Outcomes.{Outcome, attentionOf}
@@ -58,27 +59,7 @@ half = fin false 1 (negsuc 0)
 
 -- four query heads and two key heads
 abbrev pub grouped : Call
-grouped = record {
-  form = Plain;
-  mask = NoMask;
-  scale = Absent;
-  softcap = plusZero;
-  mode = NoScores;
-  rank = 4;
-  causal = 0;
-  batches = 1;
-  qheads = 4;
-  kvheads = 2;
-  qlen = 1;
-  klen = 1;
-  past = 0;
-  size = 1;
-  vsize = 1;
-  maskb = 1;
-  maskh = 1;
-  maskq = 1;
-  maskk = 1;
-}
+grouped = callWith Plain NoMask Absent plusZero NoScores 4 0 1 4 2 1 1 0 1 1 1 1 1 1
 
 -- ---- A to F: the calls, what they lend, and their outcomes
 

@@ -7,8 +7,9 @@ use lib.Ieee.{Float, nan, inf, fin}
 use Rattle.call.specs.declared.Call.{Call}
 use Rattle.call.specs.declared.Form.the-variants.{Plain}
 use Rattle.call.specs.declared.Scale.the-variants.{Absent}
-use Rattle.call.specs.declared.Answer.the-variants.{Limits, HeadGroups, Settings}
+use Rattle.call.specs.declared.Refusal.the-variants.{Limits, HeadGroups, Settings}
 use Rattle.call.specs.declared.Verdict.the-variants.{Accepted, Refused}
+use Rattle.call.specs.Parts.{callWith}
 use Rattle.call.specs.Limits.{capAllowed}
 use Rattle.call.specs.Refusals.{verdictOf}
 use Rattle.call.specs.Profile.{profileHolds}
@@ -16,27 +17,7 @@ use Rattle.call.proofs.Edges.{zero, one, call, lending, writing}
 
 -- the record with that cap
 abbrev pub withCap : Float → Call → Call
-withCap cap c = record {
-  form = c .form;
-  mask = c .mask;
-  scale = c .scale;
-  softcap = cap;
-  mode = c .mode;
-  rank = c .rank;
-  causal = c .causal;
-  batches = c .batches;
-  qheads = c .qheads;
-  kvheads = c .kvheads;
-  qlen = c .qlen;
-  klen = c .klen;
-  past = c .past;
-  size = c .size;
-  vsize = c .vsize;
-  maskb = c .maskb;
-  maskh = c .maskh;
-  maskq = c .maskq;
-  maskk = c .maskk;
-}
+withCap cap c = callWith (c .form) (c .mask) (c .scale) cap (c .mode) (c .rank) (c .causal) (c .batches) (c .qheads) (c .kvheads) (c .qlen) (c .klen) (c .past) (c .size) (c .vsize) (c .maskb) (c .maskh) (c .maskq) (c .maskk)
 
 -- the step profile takes any cap
 pub profile-any-cap : (c : Call) (cap : Float) → profileHolds (withCap cap c) ≡ profileHolds c

@@ -11,7 +11,8 @@ use borrow.Author.Tests.{not-false}
 use Rattle.call.specs.declared.Call.{Call}
 use Rattle.call.specs.Limits.{totalOf}
 use Rattle.call.specs.Contents.{nothing, at, countFault, liveFault, byteFault, byteMaskFault, cellFault, floatMaskFault, elementBound, elementFault, tensorFault, lookedAt, incomingFault}
-use Rattle.call.proofs.Search.{First, nothing→clear, clear→nothing, found→first, first→found}
+use Rattle.call.specs.Places.{TensorFirst, TensorClear}
+use Rattle.call.proofs.Search.{nothing→clear, clear→nothing, found→first, first→found}
 
 -- ---- 7: live counts
 
@@ -81,10 +82,6 @@ pub element→bounded : (x : Float) → elementFault x ≡ false → T (le (neg 
 unfolding elementFault
 element→bounded x e = subst T (sym (not-false (le (neg elementBound) x && le x elementBound) e)) tt
 
--- no element of the tensor is at fault
-abbrev pub TensorClear : List Float → Type 0
-TensorClear t = (k : ℕ) → k < length t → elementFault (getD t k nan) ≡ false
-
 -- nothing is found in a tensor exactly where no element is at fault
 pub tensor→clear : (t : List Float) → tensorFault t ≡ nothing → TensorClear t
 unfolding tensorFault
@@ -95,9 +92,6 @@ unfolding tensorFault
 clear→tensor t h = clear→nothing (λ k z. elementFault z) nan t h
 
 -- what is found is the first element at fault
-abbrev pub TensorFirst : List Float → ℕ → Type 0
-TensorFirst t i = First (λ k z. elementFault z) nan t 0 i
-
 pub tensor→first : (t : List Float) (i : ℕ) → tensorFault t ≡ at i → TensorFirst t i
 unfolding tensorFault
 tensor→first t i e = found→first (λ k z. elementFault z) nan t i e

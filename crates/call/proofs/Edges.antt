@@ -9,13 +9,15 @@ use Rattle.call.specs.declared.Call.{Call}
 use Rattle.call.specs.declared.Form.{Form}
 use Rattle.call.specs.declared.Form.the-variants.{Plain, Cached, Counted}
 use Rattle.call.specs.declared.MaskKind.{MaskKind}
-use Rattle.call.specs.declared.MaskKind.the-variants.{NoMask, Boolean, Float as FloatMask}
+use Rattle.call.specs.declared.MaskKind.the-variants.{NoMask, Boolean, FloatMask}
 use Rattle.call.specs.declared.Scale.{Scale}
 use Rattle.call.specs.declared.Scale.the-variants.{Absent, Given}
 use Rattle.call.specs.declared.ScoreMode.{ScoreMode}
 use Rattle.call.specs.declared.ScoreMode.the-variants.{NoScores, Mode}
-use Rattle.call.specs.declared.Answer.the-variants.{Done, Limits, HeadGroups, Settings, MaskShape, InputLength, OutputLength, LiveCount, MaskCell, Element}
+use Rattle.call.specs.declared.Answer.the-variants.{Done, NotDone}
+use Rattle.call.specs.declared.Refusal.the-variants.{Limits, HeadGroups, Settings, MaskShape, InputLength, OutputLength, LiveCount, MaskCell, Element, Position, Record, Room}
 use Rattle.call.specs.declared.Verdict.the-variants.{Accepted, Refused}
+use Rattle.call.specs.Parts.{callWith}
 use Rattle.call.specs.Answers.{reportOf}
 use Rattle.call.specs.Tensors.{Inputs, Outputs}
 use Rattle.call.specs.Refusals.{verdictOf}
@@ -28,99 +30,19 @@ one = fin false 1 (pos 0)
 
 -- one batch, D = Dv = 1, rank 4, no mask, one query
 abbrev pub call : Form → Scale → (qheads kvheads klen : ℕ) → Call
-call form scale qheads kvheads klen = record {
-  form = form;
-  mask = NoMask;
-  scale = scale;
-  softcap = zero;
-  mode = NoScores;
-  rank = 4;
-  causal = 0;
-  batches = 1;
-  qheads = qheads;
-  kvheads = kvheads;
-  qlen = 1;
-  klen = klen;
-  past = 0;
-  size = 1;
-  vsize = 1;
-  maskb = 0;
-  maskh = 0;
-  maskq = 0;
-  maskk = 0;
-}
+call form scale qheads kvheads klen = callWith form NoMask scale zero NoScores 4 0 1 qheads kvheads 1 klen 0 1 1 0 0 0 0
 
 -- one head, one key and no mask: the form and P
 abbrev pub withPast : Form → ℕ → Call
-withPast form past = record {
-  form = form;
-  mask = NoMask;
-  scale = Absent;
-  softcap = zero;
-  mode = NoScores;
-  rank = 4;
-  causal = 0;
-  batches = 1;
-  qheads = 1;
-  kvheads = 1;
-  qlen = 1;
-  klen = 1;
-  past = past;
-  size = 1;
-  vsize = 1;
-  maskb = 0;
-  maskh = 0;
-  maskq = 0;
-  maskk = 0;
-}
+withPast form past = callWith form NoMask Absent zero NoScores 4 0 1 1 1 1 1 past 1 1 0 0 0 0
 
 -- one head, two keys: the mask's kind, and its dimensions (1, 1, 1, maskk)
 abbrev pub masked : MaskKind → ℕ → Call
-masked kind maskk = record {
-  form = Plain;
-  mask = kind;
-  scale = Absent;
-  softcap = zero;
-  mode = NoScores;
-  rank = 4;
-  causal = 0;
-  batches = 1;
-  qheads = 1;
-  kvheads = 1;
-  qlen = 1;
-  klen = 2;
-  past = 0;
-  size = 1;
-  vsize = 1;
-  maskb = 1;
-  maskh = 1;
-  maskq = 1;
-  maskk = maskk;
-}
+masked kind maskk = callWith Plain kind Absent zero NoScores 4 0 1 1 1 1 2 0 1 1 1 1 1 maskk
 
 -- one head, one key and no mask: the mode, the rank and the causal flag
 abbrev pub setting : ScoreMode → (rank causal : ℕ) → Call
-setting mode rank causal = record {
-  form = Plain;
-  mask = NoMask;
-  scale = Absent;
-  softcap = zero;
-  mode = mode;
-  rank = rank;
-  causal = causal;
-  batches = 1;
-  qheads = 1;
-  kvheads = 1;
-  qlen = 1;
-  klen = 1;
-  past = 0;
-  size = 1;
-  vsize = 1;
-  maskb = 0;
-  maskh = 0;
-  maskq = 0;
-  maskk = 0;
-}
+setting mode rank causal = callWith Plain NoMask Absent zero mode rank causal 1 1 1 1 1 0 1 1 0 0 0 0
 
 abbrev pub lending : List Float → List Float → List Float → List ℤ → Inputs
 lending query key value live = record { query = query; key = key; value = value; boolMask = []; floatMask = []; pastKey = []; pastValue = []; live = live }
@@ -192,9 +114,13 @@ pub record EdgesHold : Type 0 where
   pub value-last : verdictOf (withPast Cached 1) (lendingPast one one one nan) lentPast ≡ Refused (Element 4 0)
   -- what an answer reports
   pub done-report : reportOf (Done 5 2) ≡ record { number = 0; tensor = 0; index = 0; total = 5; masked = 2 }
-  pub live-report : reportOf (LiveCount 6) ≡ record { number = 7; tensor = 0; index = 6; total = 0; masked = 0 }
-  pub cell-report : reportOf (MaskCell 6) ≡ record { number = 8; tensor = 0; index = 6; total = 0; masked = 0 }
-  pub element-report : reportOf (Element 3 6) ≡ record { number = 9; tensor = 3; index = 6; total = 0; masked = 0 }
+  pub live-report : reportOf (NotDone (LiveCount 6)) ≡ record { number = 7; tensor = 0; index = 6; total = 0; masked = 0 }
+  pub cell-report : reportOf (NotDone (MaskCell 6)) ≡ record { number = 8; tensor = 0; index = 6; total = 0; masked = 0 }
+  pub element-report : reportOf (NotDone (Element 3 6)) ≡ record { number = 9; tensor = 3; index = 6; total = 0; masked = 0 }
+  -- and of a file
+  pub position-report : reportOf (NotDone (Position 6)) ≡ record { number = 9; tensor = 0; index = 6; total = 0; masked = 0 }
+  pub record-report : reportOf (NotDone (Record 6)) ≡ record { number = 11; tensor = 0; index = 6; total = 0; masked = 0 }
+  pub room-report : reportOf (NotDone Room) ≡ record { number = 16; tensor = 0; index = 0; total = 0; masked = 0 }
 
 pub edges-hold : EdgesHold
 unfolding verdictOf
@@ -239,4 +165,7 @@ edges-hold = record {
   live-report = refl;
   cell-report = refl;
   element-report = refl;
+  position-report = refl;
+  record-report = refl;
+  room-report = refl;
 }

@@ -10,7 +10,7 @@ use lib.Ieee.Bits.{is-true}
 use borrow.Author.Tests.{le-leb, eq-eqb}
 use Rattle.call.specs.declared.Call.{Call}
 use Rattle.call.specs.declared.MaskKind.{MaskKind}
-use Rattle.call.specs.declared.MaskKind.the-variants.{NoMask, Boolean, Float as FloatMask}
+use Rattle.call.specs.declared.MaskKind.the-variants.{NoMask, Boolean, FloatMask}
 use Rattle.call.specs.Tensors.{Inputs, Outputs}
 use Rattle.call.specs.Limits.{totalOf, within, pastAllowed, limitsHold, groupsHold, modeAllowed, scaleAllowed, capAllowed, settingsHold, oneOr, dimensionsHold, whereMasked, maskShapeHolds}
 use Rattle.call.specs.Lengths.{inBoolean, inFloat, queryLength, keyLength, valueLength, maskLength, pastKeyLength, pastValueLength, liveLength, outputLength, presentKeyLength, presentValueLength, scoresLength, inputsFit, outputsFit}

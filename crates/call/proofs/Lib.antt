@@ -1,10 +1,12 @@
 pub mod Search
+pub mod FirstLink
 pub mod Clear
 pub mod Accepted
 pub mod Facts
 pub mod Edges
 pub mod ProfileEdges
 pub mod CapEdges
-pub mod Lowest
+pub mod Places
+pub mod Numbers
 pub mod Entries
 pub mod MaskBounds

@@ -5,7 +5,7 @@ use mathlib.Core.Bool.{true}
 use Prim.Native.Nat.{ℕ, _≤_}
 use native.Mathlib.Omega.{arith}
 use Rattle.call.specs.declared.Call.{Call}
-use Rattle.call.specs.declared.MaskKind.the-variants.{Boolean, Float as FloatMask}
+use Rattle.call.specs.declared.MaskKind.the-variants.{Boolean, FloatMask}
 use Rattle.call.specs.Limits.{limitsHold, maskShapeHolds}
 use Rattle.call.proofs.Facts.{limits→facts, shape→facts}
 

@@ -7,39 +7,21 @@ use Rattle.call.specs.declared.Call.{Call}
 use Rattle.call.specs.declared.Form.{Form}
 use Rattle.call.specs.declared.Form.the-variants.{Plain, Cached, Counted}
 use Rattle.call.specs.declared.MaskKind.{MaskKind}
-use Rattle.call.specs.declared.MaskKind.the-variants.{NoMask, Boolean, Float as FloatMask}
+use Rattle.call.specs.declared.MaskKind.the-variants.{NoMask, Boolean, FloatMask}
 use Rattle.call.specs.declared.Scale.{Scale}
 use Rattle.call.specs.declared.Scale.the-variants.{Absent, Given}
 use Rattle.call.specs.declared.ScoreMode.{ScoreMode}
 use Rattle.call.specs.declared.ScoreMode.the-variants.{NoScores, Mode}
-use Rattle.call.specs.declared.Answer.the-variants.{Profile}
+use Rattle.call.specs.declared.Answer.the-variants.{NotDone}
+use Rattle.call.specs.declared.Refusal.the-variants.{Profile}
+use Rattle.call.specs.Parts.{callWith}
 use Rattle.call.specs.Answers.{reportOf}
 use Rattle.call.specs.Profile.{general, profileHolds, takes}
 use Rattle.call.proofs.Edges.{zero}
 
 -- the eight that the profile looks at, with a scale, a cap and one number for all that it does not
 abbrev pub decode : Form → MaskKind → ScoreMode → (rank causal batches qlen klen : ℕ) → Scale → (cap : Float) → (free : ℕ) → Call
-decode form mask mode rank causal batches qlen klen scale cap free = record {
-  form = form;
-  mask = mask;
-  scale = scale;
-  softcap = cap;
-  mode = mode;
-  rank = rank;
-  causal = causal;
-  batches = batches;
-  qheads = free;
-  kvheads = free;
-  qlen = qlen;
-  klen = klen;
-  past = free;
-  size = free;
-  vsize = free;
-  maskb = free;
-  maskh = free;
-  maskq = free;
-  maskk = free;
-}
+decode form mask mode rank causal batches qlen klen scale cap free = callWith form mask scale cap mode rank causal batches free free qlen klen free free free free free free free
 
 pub record ProfileEdgesHold : Type 0 where
   -- a decode step; what the profile does not look at may be anything
@@ -66,7 +48,7 @@ pub record ProfileEdgesHold : Type 0 where
   -- the general entry takes any record
   pub general-takes : takes general (decode Plain Boolean (Mode 9) 7 2 0 3000 0 (Given nan) nan 0) ≡ true
   -- refusal 10 has no place
-  pub profile-report : reportOf Profile ≡ record { number = 10; tensor = 0; index = 0; total = 0; masked = 0 }
+  pub profile-report : reportOf (NotDone Profile) ≡ record { number = 10; tensor = 0; index = 0; total = 0; masked = 0 }
 
 pub profile-edges-hold : ProfileEdgesHold
 unfolding profileHolds

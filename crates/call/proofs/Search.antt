@@ -7,6 +7,7 @@ use native.Mathlib.Nat.{lt-of-not-le, le-antisymm, not-suc-le-zero, le-of-suc-le
 use native.Mathlib.Omega.{arith}
 use lib.ListN.{length, getD}
 use Rattle.call.specs.Contents.{Found, nothing, at, firstFrom, firstFault}
+use Rattle.call.specs.Places.{First}
 
 no-index : (i : ℕ) → at i ≡ nothing → ⊥
 no-index i e = let z : _≡_ {A = ℕ} 0 1 = cc in omega arith
@@ -46,34 +47,42 @@ module _ {A : Type 0} (fault : ℕ → A → Bool) (d : A) where
   unfolding firstFault
   clear→nothing xs h = from-clear xs 0 (λ k l. subst (λ (n : ℕ). fault n (getD xs k d) ≡ false) (sym (zero-add k)) (h k l))
 
-  -- what is found is the first index at fault
-  pub record First (xs : List A) (i k : ℕ) : Type 0 where
-    pub inside : k < length xs
-    pub faulty : fault (i + k) (getD xs k d) ≡ true
-    pub before : (j : ℕ) → j < k → fault (i + j) (getD xs j d) ≡ false
+  -- element k is the first at fault of a list whose indexes are counted from i
+  record FirstFrom (xs : List A) (i k : ℕ) : Type 0 where
+    inside : k < length xs
+    faulty : fault (i + k) (getD xs k d) ≡ true
+    before : (j : ℕ) → j < k → fault (i + j) (getD xs j d) ≡ false
 
-  first-from : (xs : List A) (i n : ℕ) → firstFrom fault i xs ≡ at n → (k : ℕ) × (n ≡ i + k) × First xs i k
+  first-from : (xs : List A) (i n : ℕ) → firstFrom fault i xs ≡ at n → (k : ℕ) × (n ≡ i + k) × FirstFrom xs i k
   unfolding firstFrom
   first-from [] i n e = absurd (no-index n (sym e))
   first-from (x ∷ xs) i n e =
-      either (fault i x) i n (firstFrom fault (suc i) xs) e ((k : ℕ) × (n ≡ i + k) × First (x ∷ xs) i k)
+      either (fault i x) i n (firstFrom fault (suc i) xs) e ((k : ℕ) × (n ≡ i + k) × FirstFrom (x ∷ xs) i k)
       (λ b p. (0, sym p ∙ sym (add-zero i), record { inside = zero-lt-suc (length xs); faulty = subst (λ (m : ℕ). fault m x ≡ true) (sym (add-zero i)) b; before = λ j h. absurd (not-suc-le-zero h) }))
       (λ b p. let r = first-from xs (suc i) n p in (suc (r .0), r .1 ∙ suc-add i (r .0) ∙ sym (add-suc i (r .0)), later b (r .0) (r .2)))
     where
-      later : fault i x ≡ false → (k : ℕ) → First xs (suc i) k → First (x ∷ xs) i (suc k)
+      later : fault i x ≡ false → (k : ℕ) → FirstFrom xs (suc i) k → FirstFrom (x ∷ xs) i (suc k)
       later b k f = record {
         inside = suc-le-suc (f .inside);
         faulty = shifted i k (getD xs k d) true (f .faulty);
         before = earlier b k f;
       }
         where
-          earlier : fault i x ≡ false → (k : ℕ) → First xs (suc i) k → (j : ℕ) → j < suc k → fault (i + j) (getD (x ∷ xs) j d) ≡ false
+          earlier : fault i x ≡ false → (k : ℕ) → FirstFrom xs (suc i) k → (j : ℕ) → j < suc k → fault (i + j) (getD (x ∷ xs) j d) ≡ false
           earlier b k f zero h = subst (λ (m : ℕ). fault m x ≡ false) (sym (add-zero i)) b
           earlier b k f (suc j) h = shifted i j (getD xs j d) false (f .before j (le-of-suc-le-suc h))
 
-  pub found→first : (xs : List A) (n : ℕ) → firstFault fault xs ≡ at n → First xs 0 n
+  -- what is found is the first index at fault
+  pub found→first : (xs : List A) (n : ℕ) → firstFault fault xs ≡ at n → First fault d xs n
   unfolding firstFault
-  found→first xs n e = let r = first-from xs 0 n e in subst (λ (k : ℕ). First xs 0 k) (sym (r .1 ∙ zero-add (r .0))) (r .2)
+  found→first xs n e =
+      let r = first-from xs 0 n e in
+      let f = subst (λ (k : ℕ). FirstFrom xs 0 k) (sym (r .1 ∙ zero-add (r .0))) (r .2) in
+      record {
+        inside = f .inside;
+        faulty = subst (λ (m : ℕ). fault m (getD xs n d) ≡ true) (zero-add n) (f .faulty);
+        before = λ j h. subst (λ (m : ℕ). fault m (getD xs j d) ≡ false) (zero-add j) (f .before j h);
+      }
 
   -- where an element is at fault and none before it, its index is found
   pub first→found : (xs : List A) (n : ℕ) → n < length xs → fault n (getD xs n d) ≡ true → ((k : ℕ) → k < n → fault k (getD xs k d) ≡ false) → firstFault fault xs ≡ at n
@@ -83,11 +92,11 @@ module _ {A : Type 0} (fault : ℕ → A → Bool) (d : A) where
       by-found nothing e = absurd (true≢false (sym f ∙ nothing→clear xs e n h))
       by-found (at m) e = e ∙ ap at (same (found→first xs m e))
         where
-          same : First xs 0 m → m ≡ n
+          same : First fault d xs m → m ≡ n
           same p =
               le-antisymm
-              (le-of-suc-le-suc (lt-of-not-le (λ g. true≢false (sym f ∙ ap (λ (k : ℕ). fault k (getD xs n d)) (sym (zero-add n)) ∙ p .before n g))))
-              (le-of-suc-le-suc (lt-of-not-le (λ l. true≢false (sym (p .faulty) ∙ ap (λ (k : ℕ). fault k (getD xs m d)) (zero-add m) ∙ b m l))))
+              (le-of-suc-le-suc (lt-of-not-le (λ g. true≢false (sym f ∙ p .before n g))))
+              (le-of-suc-le-suc (lt-of-not-le (λ l. true≢false (sym (p .faulty) ∙ b m l))))
 
 -- searches that agree on every element of a list
 module _ {A : Type 0} (f g : ℕ → A → Bool) (d : A) where

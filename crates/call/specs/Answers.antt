@@ -1,8 +1,59 @@
--- What an answer reports: the number of the refusal (0 for done), the tensor and the index of the fault, and the total length and the number of fully masked rows (blind rows) of a call that is done.
+-- The refusals as numbers, and what an answer reports: the number of the refusal (0 for done), the tensor and the index of the fault, and the total length and the number of fully masked rows (blind rows) of a call that is done.
 -- Definitions only.
 use Prim.Native.Nat.{ℕ}
+use Rattle.call.specs.declared.Refusal.{Refusal}
+use Rattle.call.specs.declared.Refusal.the-variants.{Limits, HeadGroups, Settings, MaskShape, InputLength, OutputLength, LiveCount, MaskCell, Element, Position, Profile, Record, Room}
 use Rattle.call.specs.declared.Answer.{Answer}
-use Rattle.call.specs.declared.Answer.the-variants.{Done, Limits, HeadGroups, Settings, MaskShape, InputLength, OutputLength, LiveCount, MaskCell, Element, Profile}
+use Rattle.call.specs.declared.Answer.the-variants.{Done, NotDone}
+
+abbrev pub numberOf : Refusal → ℕ
+numberOf Limits = 1
+numberOf HeadGroups = 2
+numberOf Settings = 3
+numberOf MaskShape = 4
+numberOf InputLength = 5
+numberOf OutputLength = 6
+numberOf (LiveCount i) = 7
+numberOf (MaskCell i) = 8
+numberOf (Element t i) = 9
+numberOf (Position p) = 9
+numberOf Profile = 10
+numberOf (Record b) = 11
+numberOf Room = 16
+
+-- the tensor that the index is one of: of a call's 9 alone
+abbrev pub tensorOf : Refusal → ℕ
+tensorOf Limits = 0
+tensorOf HeadGroups = 0
+tensorOf Settings = 0
+tensorOf MaskShape = 0
+tensorOf InputLength = 0
+tensorOf OutputLength = 0
+tensorOf (LiveCount i) = 0
+tensorOf (MaskCell i) = 0
+tensorOf (Element t i) = t
+tensorOf (Position p) = 0
+tensorOf Profile = 0
+tensorOf (Record b) = 0
+tensorOf Room = 0
+
+-- the index at fault, or of a file the position or the byte; 0 where there is no place
+abbrev pub placeOf : Refusal → ℕ
+placeOf Limits = 0
+placeOf HeadGroups = 0
+placeOf Settings = 0
+placeOf MaskShape = 0
+placeOf InputLength = 0
+placeOf OutputLength = 0
+placeOf (LiveCount i) = i
+placeOf (MaskCell i) = i
+placeOf (Element t i) = i
+placeOf (Position p) = p
+placeOf Profile = 0
+placeOf (Record b) = b
+placeOf Room = 0
+
+-- ---- an answer
 
 pub record Report : Type 0 where
   pub number : ℕ
@@ -11,23 +62,6 @@ pub record Report : Type 0 where
   pub total : ℕ
   pub masked : ℕ
 
--- a refusal without a place
-abbrev pub refusal : ℕ → Report
-refusal n = record { number = n; tensor = 0; index = 0; total = 0; masked = 0 }
-
--- a refusal with the first index at fault, in the tensor t
-abbrev pub refusalAt : ℕ → ℕ → ℕ → Report
-refusalAt n t i = record { number = n; tensor = t; index = i; total = 0; masked = 0 }
-
 abbrev pub reportOf : Answer → Report
 reportOf (Done total masked) = record { number = 0; tensor = 0; index = 0; total = total; masked = masked }
-reportOf Limits = refusal 1
-reportOf HeadGroups = refusal 2
-reportOf Settings = refusal 3
-reportOf MaskShape = refusal 4
-reportOf InputLength = refusal 5
-reportOf OutputLength = refusal 6
-reportOf (LiveCount i) = refusalAt 7 0 i
-reportOf (MaskCell i) = refusalAt 8 0 i
-reportOf (Element t i) = refusalAt 9 t i
-reportOf Profile = refusal 10
+reportOf (NotDone r) = record { number = numberOf r; tensor = tensorOf r; index = placeOf r; total = 0; masked = 0 }

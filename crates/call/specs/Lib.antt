@@ -1,3 +1,4 @@
+pub mod Parts
 pub mod Answers
 pub mod Tensors
 pub mod Limits
@@ -5,4 +6,4 @@ pub mod Lengths
 pub mod Contents
 pub mod Refusals
 pub mod Profile
-pub mod Applies
+pub mod Places

@@ -8,7 +8,7 @@ use Rattle.call.specs.declared.Call.{Call}
 use Rattle.call.specs.declared.Form.{Form}
 use Rattle.call.specs.declared.Form.the-variants.{Plain, Cached, Counted}
 use Rattle.call.specs.declared.MaskKind.{MaskKind}
-use Rattle.call.specs.declared.MaskKind.the-variants.{NoMask, Boolean, Float as FloatMask}
+use Rattle.call.specs.declared.MaskKind.the-variants.{NoMask, Boolean, FloatMask}
 use Rattle.call.specs.declared.Scale.{Scale}
 use Rattle.call.specs.declared.Scale.the-variants.{Absent, Given}
 use Rattle.call.specs.declared.ScoreMode.{ScoreMode}
@@ -18,11 +18,30 @@ use Rattle.call.specs.declared.ScoreMode.the-variants.{NoScores, Mode}
 abbrev pub totalOf : Call → ℕ
 totalOf c = c .past + c .klen
 
+-- ---- the limits
+
+abbrev pub mostBatches : ℕ
+mostBatches = 8
+
+abbrev pub mostHeads : ℕ
+mostHeads = 32
+
+-- of Sq, Sk and T
+abbrev pub mostLength : ℕ
+mostLength = 2048
+
+-- of D and Dv
+abbrev pub mostSize : ℕ
+mostSize = 256
+
 -- lo ≤ x ≤ hi
 abbrev pub within : ℕ → ℕ → ℕ → Bool
 within lo hi x = leb lo x && leb x hi
 
 -- ---- 1: every dimension and T within its limits, and P 0 outside the cached form
+
+abbrev pub headsAllowed : ℕ → Bool
+headsAllowed h = within 1 mostHeads h
 
 abbrev pub pastAllowed : Form → ℕ → Bool
 pastAllowed Plain p = eqb p 0
@@ -31,22 +50,31 @@ pastAllowed Counted p = eqb p 0
 
 unfoldable pub limitsHold : Call → Bool
 limitsHold c =
-    within 1 8 (c .batches)
-    && within 1 32 (c .qheads)
-    && within 1 32 (c .kvheads)
-    && within 1 2048 (c .qlen)
-    && within 1 2048 (c .klen)
-    && leb (totalOf c) 2048
-    && within 1 256 (c .size)
-    && within 1 256 (c .vsize)
+    within 1 mostBatches (c .batches)
+    && headsAllowed (c .qheads)
+    && headsAllowed (c .kvheads)
+    && within 1 mostLength (c .qlen)
+    && within 1 mostLength (c .klen)
+    && leb (totalOf c) mostLength
+    && within 1 mostSize (c .size)
+    && within 1 mostSize (c .vsize)
     && pastAllowed (c .form) (c .past)
 
 -- ---- 2: Hq is a multiple of Hkv
 
-unfoldable pub groupsHold : Call → Bool
-groupsHold c = eqb (c .qheads % c .kvheads) 0
+abbrev pub groupsAllowed : (qheads kvheads : ℕ) → Bool
+groupsAllowed qheads kvheads = eqb (qheads % kvheads) 0
 
--- ---- 3: rank, causal flag, score mode, scale and cap
+unfoldable pub groupsHold : Call → Bool
+groupsHold c = groupsAllowed (c .qheads) (c .kvheads)
+
+-- ---- 3: rank, causal flag, score mode, scale and cap, each by itself
+
+abbrev pub rankAllowed : ℕ → Bool
+rankAllowed rank = eqb rank 3 || eqb rank 4
+
+abbrev pub causalAllowed : ℕ → Bool
+causalAllowed causal = leb causal 1
 
 abbrev pub modeAllowed : ScoreMode → Bool
 modeAllowed NoScores = true
@@ -63,7 +91,7 @@ capAllowed x = le (fin false 0 (pos 0)) x && le x (fin false 1 (pos 16))
 
 unfoldable pub settingsHold : Call → Bool
 unfolding lt le
-settingsHold c = (eqb (c .rank) 3 || eqb (c .rank) 4) && leb (c .causal) 1 && modeAllowed (c .mode) && scaleAllowed (c .scale) && capAllowed (c .softcap)
+settingsHold c = rankAllowed (c .rank) && causalAllowed (c .causal) && modeAllowed (c .mode) && scaleAllowed (c .scale) && capAllowed (c .softcap)
 
 -- ---- 4: each mask dimension is 1 or its full size; not looked at without a mask
 

@@ -9,7 +9,7 @@ use native.Mathlib.Omega.{arith}
 use lib.ListN.{length, getD, take}
 use lib.Ieee.{Float, nan}
 use Rattle.call.specs.Contents.{elementFault}
-use Rattle.call.proofs.Clear.{TensorClear}
+use Rattle.call.specs.Places.{TensorClear}
 use Rattle.contents.specs.Faults.{faultNumber, faultCount}
 
 pub number-some : (b : Bool) → (faultNumber b ≡ 0 → ⊥) → b ≡ true

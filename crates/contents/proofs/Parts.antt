@@ -10,7 +10,8 @@ use lib.ListN.{length, getD, take, drop, length-take, length-drop}
 use lib.Seq.{getD-take, getD-drop}
 use lib.Ieee.{Float, nan}
 use Rattle.call.specs.Contents.{Found, nothing, at, elementFault, tensorFault}
-use Rattle.call.proofs.Clear.{TensorClear, tensor→clear, clear→tensor, tensor→first, first→tensor}
+use Rattle.call.specs.Places.{TensorClear}
+use Rattle.call.proofs.Clear.{tensor→clear, clear→tensor, tensor→first, first→tensor}
 use Rattle.contents.specs.Faults.{indexOr, foundBelow}
 
 -- ---- the index that a search returns

@@ -1,7 +1,7 @@
 // Refusal 7: the live counts, searched from their start; and the live count as the rows use it.
 ghost use mathlib.Core.Path.{_≡_};
 ghost use Prim.Native.Nat.{_≤_};
-ghost use Rattle.call.specs.declared.Answer.the-variants.{LiveCount};
+ghost use Rattle.call.specs.declared.Refusal.the-variants.{LiveCount};
 ghost use Rattle.call.specs.Limits.{totalOf};
 ghost use Rattle.call.specs.Contents.{countOf, countFault, liveFault};
 ghost use Rattle.call.specs.Refusals.{whereFound};
@@ -10,9 +10,9 @@ ghost use lib.ListN.{length};
 ghost use Rattle.call.specs.Lengths.{liveLength};
 ghost use Rattle.call.specs.Contents.{liveFault, liveOf};
 ghost use Rattle.call.specs.Contents.{liveOf};
-use call::Answer;
 use call::Call;
 use call::Form;
+use call::Refusal;
 use call::Verdict;
 
 // A live count as a number of positions; 0 where it is below 0.
@@ -43,7 +43,7 @@ pub fn live_counts(call: Call, live: &[i64]) -> Verdict
     let mut i = 0;
     while i < live.len() {
         if count_fault(total, live[i]) {
-            return Verdict::Refused(Answer::LiveCount { index: i });
+            return Verdict::Refused(Refusal::LiveCount { index: i });
         }
         i += 1;
     }

@@ -3,13 +3,13 @@ ghost use mathlib.Core.Path.{_≡_};
 ghost use mathlib.Core.List.{[]};
 ghost use Prim.Native.Nat.{_≤_};
 ghost use Rattle.call.specs.Tensors.{inputsOf};
-ghost use Rattle.call.specs.declared.Answer.the-variants.{MaskCell};
+ghost use Rattle.call.specs.declared.Refusal.the-variants.{MaskCell};
 ghost use Rattle.call.specs.Limits.{totalOf};
 ghost use Rattle.call.specs.Contents.{byteMaskFault, cellFault, floatMaskFault};
 ghost use Rattle.call.specs.Refusals.{whereFound, cellsVerdict};
 ghost use Rattle.call.specs.Refusals.{whereFound};
-use call::Answer;
 use call::Call;
+use call::Refusal;
 use call::Verdict;
 
 fn mask_bytes(mask: &[u8]) -> Verdict
@@ -18,7 +18,7 @@ fn mask_bytes(mask: &[u8]) -> Verdict
     let mut i = 0;
     while i < mask.len() {
         if 1 < mask[i] {
-            return Verdict::Refused(Answer::MaskCell { index: i });
+            return Verdict::Refused(Refusal::MaskCell { index: i });
         }
         i += 1;
     }
@@ -38,7 +38,7 @@ fn mask_cells(mask: &[f32]) -> Verdict
     let mut i = 0;
     while i < mask.len() {
         if cell_fault(mask[i]) {
-            return Verdict::Refused(Answer::MaskCell { index: i });
+            return Verdict::Refused(Refusal::MaskCell { index: i });
         }
         i += 1;
     }
@@ -50,12 +50,12 @@ pub fn cells_verdict(call: Call, boolmask: &[u8], floatmask: &[f32], live: &[i64
     ensures { λ r. ⌜ r ≡ cellsVerdict call (inputsOf [] [] [] (now (boolmask .entry)) (now (floatmask .entry)) [] [] (now (live .entry))) ⌝ }
 {
     let counts = contents_counts::live_counts(call, live);
-    if let Verdict::Refused(answer) = counts {
-        return Verdict::Refused(answer);
+    if let Verdict::Refused(refusal) = counts {
+        return Verdict::Refused(refusal);
     }
     let bytes = mask_bytes(boolmask);
-    if let Verdict::Refused(answer) = bytes {
-        return Verdict::Refused(answer);
+    if let Verdict::Refused(refusal) = bytes {
+        return Verdict::Refused(refusal);
     }
     mask_cells(floatmask)
 }

@@ -8,15 +8,15 @@ ghost use Rattle.call.specs.Refusals.{whereFound};
 ghost use mathlib.Core.Bool.{true};
 ghost use Prim.Native.Nat.{_*_, _≤_};
 ghost use lib.ListN.{length};
-ghost use Rattle.call.specs.declared.Answer.the-variants.{Element};
+ghost use Rattle.call.specs.declared.Refusal.the-variants.{Element};
 ghost use Rattle.call.specs.Limits.{limitsHold};
 ghost use Rattle.call.specs.Lengths.{keyLength, valueLength, liveLength};
 ghost use Rattle.call.specs.Contents.{nothing, liveFault, tensorFault, incomingFault};
 ghost use Rattle.call.specs.Refusals.{whereFound, elementsVerdict};
 ghost use Rattle.contents.specs.Faults.{foundBelow};
 ghost use Rattle.call.specs.Lengths.{liveLength};
-use call::Answer;
 use call::Call;
+use call::Refusal;
 use call::Verdict;
 
 // The verdict on the tensor with that number, by the index that a search returned.
@@ -24,7 +24,7 @@ fn element_verdict(found: usize, length: usize, number: usize) -> Verdict
     ensures { λ r. ⌜ r ≡ whereFound (foundBelow found length) (Element number) ⌝ }
 {
     if found < length {
-        return Verdict::Refused(Answer::Element {
+        return Verdict::Refused(Refusal::Element {
             tensor: number,
             index: found,
         });
@@ -76,20 +76,20 @@ pub fn elements_verdict(
     ensures { λ r. ⌜ r ≡ elementsVerdict call (inputsOf (now (query .entry)) (now (key .entry)) (now (value .entry)) [] [] (now (pastkey .entry)) (now (pastvalue .entry)) (now (live .entry))) ⌝ }
 {
     let queries = whole_tensor(query, 0);
-    if let Verdict::Refused(answer) = queries {
-        return Verdict::Refused(answer);
+    if let Verdict::Refused(refusal) = queries {
+        return Verdict::Refused(refusal);
     }
     let pastkeys = whole_tensor(pastkey, 1);
-    if let Verdict::Refused(answer) = pastkeys {
-        return Verdict::Refused(answer);
+    if let Verdict::Refused(refusal) = pastkeys {
+        return Verdict::Refused(refusal);
     }
     let keys = incoming_tensor(call, live, call.size, key, 2);
-    if let Verdict::Refused(answer) = keys {
-        return Verdict::Refused(answer);
+    if let Verdict::Refused(refusal) = keys {
+        return Verdict::Refused(refusal);
     }
     let pastvalues = whole_tensor(pastvalue, 3);
-    if let Verdict::Refused(answer) = pastvalues {
-        return Verdict::Refused(answer);
+    if let Verdict::Refused(refusal) = pastvalues {
+        return Verdict::Refused(refusal);
     }
     incoming_tensor(call, live, call.vsize, value, 4)
 }

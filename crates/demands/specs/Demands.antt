@@ -1,38 +1,36 @@
 -- The three demands as statements about what a call answers and leaves at either entry: `answer` and `left` stand for the answer of a call c with the tensors x and y at the entry e, and for its tensors at exit. The step entry is lent no masks, live counts and scores; they are empty there. Definitions only.
 use mathlib.Core.Path.{_≡_}
-use mathlib.Core.Logic.{_≢_}
-use mathlib.Core.Bool.{true, false}
+use mathlib.Core.Bool.{true}
 use mathlib.Core.List.{List, [], _∷_}
-use Prim.Native.Nat.{ℕ}
 use lib.Ieee.{Float}
 use Rattle.call.specs.declared.Call.{Call}
+use Rattle.call.specs.declared.Refusal.{Refusal}
 use Rattle.call.specs.declared.Answer.{Answer}
-use Rattle.call.specs.declared.Answer.the-variants.{Done}
-use Rattle.call.specs.Answers.{reportOf}
+use Rattle.call.specs.declared.Answer.the-variants.{Done, NotDone}
 use Rattle.call.specs.Limits.{totalOf}
 use Rattle.call.specs.Profile.{Entry, general, step}
 use Rattle.call.specs.Tensors.{Inputs, Outputs}
-use Rattle.call.specs.Applies.{appliesAt, FirstAt}
-use Rattle.call.proofs.Lowest.{AtFirst}
+use Rattle.call.specs.Refusals.{Clear, GivenFirst, linksOf}
+use Rattle.call.specs.Places.{AtFirst}
 use Rattle.attention.specs.Outcomes.{Outcome, outputTensor, presentKeyTensor, presentValueTensor, scoresTensor, workRow, maskedRowsOf, attentionOf}
 use Rattle.attention.specs.Entries.{stepInputs, stepOutputs, stepOf}
-use Rattle.sequence.specs.Chunks.{Chunk, State, lentOf, chunkCall, chunkInputs, nextState}
+use Rattle.sequence.specs.Chunks.{Chunk, State, lentOf, chunkCall, chunkInputs, isDone, nextState}
 
--- Demand 1: there is an answer. A refusal is the first that applies, names the first place at fault, and leaves every tensor as it came in; none is given where none applies.
+-- Demand 1: there is an answer. A refusal is the first that applies, names the first place at fault, and leaves every tensor as it came in; where none is given none applies.
 pub record Demand1 (e : Entry) (c : Call) (x : Inputs) (y : Outputs) (answer : Answer) (left : Outputs) : Type 0 where
-  pub first : reportOf answer .number ≢ 0 → FirstAt e c x y (reportOf answer .number)
-  pub place : reportOf answer .number ≢ 0 → AtFirst c x answer
-  pub untouched : reportOf answer .number ≢ 0 → left ≡ y
-  pub given : (k : ℕ) → appliesAt e k c x y ≡ true → reportOf answer .number ≢ 0
+  pub first : (r : Refusal) → answer ≡ NotDone r → GivenFirst (linksOf e c x y) r
+  pub place : (r : Refusal) → answer ≡ NotDone r → AtFirst c x r
+  pub untouched : (r : Refusal) → answer ≡ NotDone r → left ≡ y
+  pub none : isDone answer ≡ true → Clear (linksOf e c x y)
 
 -- Demand 2: an accepted call answers done, T and the number of fully masked rows, and leaves in each tensor what the formula gives.
 pub record Demand2 (e : Entry) (c : Call) (x : Inputs) (y : Outputs) (answer : Answer) (left : Outputs) : Type 0 where
-  pub done : ((k : ℕ) → appliesAt e k c x y ≡ false) → answer ≡ Done (totalOf c) (maskedRowsOf c x)
-  pub output : ((k : ℕ) → appliesAt e k c x y ≡ false) → left .output ≡ outputTensor c x
-  pub presentKey : ((k : ℕ) → appliesAt e k c x y ≡ false) → left .presentKey ≡ presentKeyTensor c x
-  pub presentValue : ((k : ℕ) → appliesAt e k c x y ≡ false) → left .presentValue ≡ presentValueTensor c x
-  pub scores : ((k : ℕ) → appliesAt e k c x y ≡ false) → left .scores ≡ scoresTensor c x
-  pub work : ((k : ℕ) → appliesAt e k c x y ≡ false) → left .work ≡ workRow c x
+  pub done : Clear (linksOf e c x y) → answer ≡ Done (totalOf c) (maskedRowsOf c x)
+  pub output : Clear (linksOf e c x y) → left .output ≡ outputTensor c x
+  pub presentKey : Clear (linksOf e c x y) → left .presentKey ≡ presentKeyTensor c x
+  pub presentValue : Clear (linksOf e c x y) → left .presentValue ≡ presentValueTensor c x
+  pub scores : Clear (linksOf e c x y) → left .scores ≡ scoresTensor c x
+  pub work : Clear (linksOf e c x y) → left .work ≡ workRow c x
 
 -- ---- demand 3: the two entries by what they answer and leave on every call
 

@@ -103,6 +103,6 @@ pub fn attention<'a>(
             scores,
             work,
         ),
-        Verdict::Refused(answer) => answer,
+        Verdict::Refused(refusal) => Answer::NotDone(refusal),
     }
 }

@@ -13,13 +13,15 @@ use Rattle.call.specs.declared.Call.{Call}
 use Rattle.call.specs.declared.Form.{Form}
 use Rattle.call.specs.declared.Form.the-variants.{Plain, Cached, Counted}
 use Rattle.call.specs.declared.MaskKind.{MaskKind}
-use Rattle.call.specs.declared.MaskKind.the-variants.{NoMask, Boolean, Float as FloatMask}
+use Rattle.call.specs.declared.MaskKind.the-variants.{NoMask, Boolean, FloatMask}
 use Rattle.call.specs.declared.Scale.{Scale}
 use Rattle.call.specs.declared.Scale.the-variants.{Absent, Given}
 use Rattle.call.specs.declared.ScoreMode.{ScoreMode}
 use Rattle.call.specs.declared.ScoreMode.the-variants.{NoScores, Mode}
-use Rattle.call.specs.declared.Answer.{Answer}
-use Rattle.call.specs.declared.Answer.the-variants.{Limits, HeadGroups, Settings, MaskShape, InputLength, OutputLength, LiveCount, MaskCell, Element}
+use Rattle.call.specs.declared.Answer.the-variants.{NotDone}
+use Rattle.call.specs.declared.Refusal.{Refusal}
+use Rattle.call.specs.declared.Refusal.the-variants.{Limits, HeadGroups, Settings, MaskShape, InputLength, OutputLength, LiveCount, MaskCell, Element}
+use Rattle.call.specs.Parts.{callWith}
 use Rattle.call.specs.Tensors.{Inputs, Outputs}
 use Rattle.attention.specs.Outcomes.{attentionOf}
 use Rattle.attention.specs.Calls.{tensors, done}
@@ -28,27 +30,7 @@ use Rattle.attention.specs.Table.{Claim, outcome, underCap, AllHold}
 -- the cap's bits; rank and causal flag; B, Hq, Hkv; Sq, Sk, P; D, Dv; the mask's dimensions
 unfoldable call : Form → MaskKind → Scale → ScoreMode → (softcap rank causal batches qheads kvheads qlen klen past size vsize maskb maskh maskq maskk : ℕ) → Call
 unfolding ofBits
-call form mask scale mode softcap rank causal batches qheads kvheads qlen klen past size vsize maskb maskh maskq maskk = record {
-  form = form;
-  mask = mask;
-  scale = scale;
-  softcap = ofBits binary32 softcap;
-  mode = mode;
-  rank = rank;
-  causal = causal;
-  batches = batches;
-  qheads = qheads;
-  kvheads = kvheads;
-  qlen = qlen;
-  klen = klen;
-  past = past;
-  size = size;
-  vsize = vsize;
-  maskb = maskb;
-  maskh = maskh;
-  maskq = maskq;
-  maskk = maskk;
-}
+call form mask scale mode softcap rank causal batches qheads kvheads qlen klen past size vsize maskb maskh maskq maskk = callWith form mask scale (ofBits binary32 softcap) mode rank causal batches qheads kvheads qlen klen past size vsize maskb maskh maskq maskk
 
 unfoldable given : ℕ → Scale
 unfolding ofBits
@@ -82,9 +64,9 @@ unfolding floats
 accepted c x y total masked output presentKey presentValue scores work =
     outcome c x y (done total masked (tensors (floats output) (floats presentKey) (floats presentValue) (floats scores) (floats work)))
 
--- the call is refused with this answer, and the tensors stay as they were lent
-abbrev refused : Call → Inputs → Outputs → Answer → Claim
-refused c x y answer = outcome c x y (record { answer = answer; tensors = y })
+-- the call is refused, and the tensors stay as they were lent
+abbrev refused : Call → Inputs → Outputs → Refusal → Claim
+refused c x y r = outcome c x y (record { answer = NotDone r; tensors = y })
 
 unfoldable pub vectorTable : List Claim
 unfolding call given reading accepted

@@ -31,17 +31,17 @@ firstNumber (inf s ∷ l) = 0
 firstNumber (fin s m e ∷ l) = m
 
 -- A program that always refuses: A is accepted.
-pub always-refuses : (a : Answer) → isDone a ≡ false → attentionOf (small Plain NoMask (Mode 0) 0 0 1 1) inputsA lentA .answer ≡ a → ⊥
+pub always-refuses : (a : Answer) → isDone a ≡ false → attentionOf (small Plain NoMask (Mode 1) 0 0 1 1) inputsA lentA .answer ≡ a → ⊥
 unfolding attentionOf
 always-refuses a h e = true≢false (ap isDone e ∙ h)
 
 -- A program that always yields the same tensors, zeros or others: A and E leave outputs of their own, 5 and 9.
-pub always-the-same : (output : List Float) → attentionOf (small Plain NoMask (Mode 0) 0 0 1 1) inputsA lentA .tensors .output ≡ output → attentionOf callE inputsE lentE .tensors .output ≡ output → ⊥
+pub always-the-same : (output : List Float) → attentionOf (small Plain NoMask (Mode 1) 0 0 1 1) inputsA lentA .tensors .output ≡ output → attentionOf callE inputsE lentE .tensors .output ≡ output → ⊥
 unfolding attentionOf firstNumber
 always-the-same output p q = let n : _≡_ {A = ℕ} 5 9 = ap firstNumber (p ∙ sym q) in omega arith
 
 -- A program that touches nothing: A writes its output.
-pub touches-nothing : attentionOf (small Plain NoMask (Mode 0) 0 0 1 1) inputsA lentA .tensors ≡ lentA → ⊥
+pub touches-nothing : attentionOf (small Plain NoMask (Mode 1) 0 0 1 1) inputsA lentA .tensors ≡ lentA → ⊥
 unfolding attentionOf firstNumber
 touches-nothing e = let n : _≡_ {A = ℕ} 5 0 = ap (λ (t : Outputs). firstNumber (t .output)) e in omega arith
 

@@ -3,7 +3,8 @@ use mathlib.Core.Path.{_≡_, refl}
 use mathlib.Core.List.{[], _∷_}
 use mathlib.Core.Bool.{false, true}
 use Rattle.call.specs.Profile.{Entry, general, step}
-use Rattle.call.specs.declared.Answer.the-variants.{Done, Profile}
+use Rattle.call.specs.declared.Answer.the-variants.{Done, NotDone}
+use Rattle.call.specs.declared.Refusal.the-variants.{Profile}
 use Rattle.attention.specs.Outcomes.{outcomeOf}
 use Rattle.attention.specs.Table.{callE, inputsE, outcomeE}
 use Rattle.sequence.specs.Chunks.{start, lentOf, chunkCall, chunkInputs, chunkOutcome, stateAfter, plainAccepted, positionsOf, entered}
@@ -25,7 +26,7 @@ second-is-E step step = record { call = refl; inputs = refl; outcome = refl }
 -- both at once are entered through the general entry; through the step entry they get refusal 10 and are not entered, though the plain call over them is accepted
 pub record BothAtOnce : Type 0 where
   pub plain : plainAccepted callE (positionsOf callE (bothAtOnce step)) ≡ true
-  pub refused : chunkOutcome callE start (bothAtOnce step) ≡ outcomeOf Profile (lentOf (bothAtOnce step))
+  pub refused : chunkOutcome callE start (bothAtOnce step) ≡ outcomeOf (NotDone Profile) (lentOf (bothAtOnce step))
   pub not-entered : entered callE start [] (bothAtOnce step) ≡ false
   pub accepted : chunkOutcome callE start (bothAtOnce general) .answer ≡ Done 2 0
   pub entered-by-general : entered callE start [] (bothAtOnce general) ≡ true

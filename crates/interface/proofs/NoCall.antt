@@ -10,7 +10,8 @@ use borrow.Author.Tests.{ne-eqb}
 use Rattle.exponential.specs.ExpNeg.{plusZero}
 use Rattle.call.specs.declared.Call.{Call}
 use Rattle.call.specs.declared.Scale.the-variants.{Given}
-use Rattle.call.specs.declared.Answer.the-variants.{Limits, HeadGroups, Settings, MaskShape, Profile}
+use Rattle.call.specs.declared.Answer.the-variants.{NotDone}
+use Rattle.call.specs.declared.Refusal.the-variants.{Limits, HeadGroups, Settings, MaskShape, Profile}
 use Rattle.call.specs.declared.Verdict.{Verdict}
 use Rattle.call.specs.declared.Verdict.the-variants.{Refused}
 use Rattle.call.specs.Limits.{limitsHold, groupsHold, settingsHold, maskShapeHolds}
@@ -80,8 +81,8 @@ module _ (numbers : List ℕ) (scale softcap : Float) (x : Inputs) (y : Outputs)
   unnamed-scale-refused h = refused-by-settings (callOf numbers scale softcap) x y (scale-fails numbers scale softcap h)
 
   -- at the step entry a record that has not 18 numbers, or a code that names no form or no mask kind, is refusal 10
-  pub wrong-length-other : (length numbers ≡ 18 → ⊥) → stepOf (callOf numbers scale softcap) x y ≡ outcomeOf Profile y
+  pub wrong-length-other : (length numbers ≡ 18 → ⊥) → stepOf (callOf numbers scale softcap) x y ≡ outcomeOf (NotDone Profile) y
   wrong-length-other h = step-other (callOf numbers scale softcap) x y (wrong-length-profile numbers scale softcap h)
 
-  pub unnamed-other : codesNamed (numberOf numbers 0) (numberOf numbers 1) ≡ false → stepOf (callOf numbers scale softcap) x y ≡ outcomeOf Profile y
+  pub unnamed-other : codesNamed (numberOf numbers 0) (numberOf numbers 1) ≡ false → stepOf (callOf numbers scale softcap) x y ≡ outcomeOf (NotDone Profile) y
   unnamed-other h = step-other (callOf numbers scale softcap) x y (unnamed-profile numbers scale softcap h)

@@ -11,7 +11,7 @@ use Rattle.call.specs.declared.Call.{Call}
 use Rattle.call.specs.declared.Form.{Form}
 use Rattle.call.specs.declared.Form.the-variants.{Plain, Cached, Counted}
 use Rattle.call.specs.declared.MaskKind.{MaskKind}
-use Rattle.call.specs.declared.MaskKind.the-variants.{NoMask, Boolean, Float as FloatMask}
+use Rattle.call.specs.declared.MaskKind.the-variants.{NoMask, Boolean, FloatMask}
 use Rattle.call.specs.declared.Scale.{Scale}
 use Rattle.call.specs.declared.Scale.the-variants.{Absent, Given}
 use Rattle.call.specs.declared.ScoreMode.{ScoreMode}

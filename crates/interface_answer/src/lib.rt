@@ -1,43 +1,71 @@
-// An answer as numbers. `report` takes any answer.
+// A refusal and an answer as numbers. Every function takes any of them.
 ghost use mathlib.Core.Path.{_≡_};
-ghost use Rattle.call.specs.Answers.{reportOf, refusal, refusalAt};
+ghost use Rattle.call.specs.Answers.{numberOf, tensorOf, placeOf, reportOf};
 ghost use Rattle.interface.specs.Report.{reportIn};
 use call::Answer;
+use call::Refusal;
 use interface::Numbers;
 
-fn refused(number: u32) -> Numbers
-    ensures { λ r. ⌜ reportIn r ≡ refusal number ⌝ }
+pub fn number_of(refusal: Refusal) -> u32
+    ensures { λ r. ⌜ r ≡ numberOf refusal ⌝ }
 {
-    Numbers {
-        number,
-        tensor: 0,
-        index: 0,
-        total: 0,
-        masked: 0,
+    match refusal {
+        Refusal::Limits => 1,
+        Refusal::HeadGroups => 2,
+        Refusal::Settings => 3,
+        Refusal::MaskShape => 4,
+        Refusal::InputLength => 5,
+        Refusal::OutputLength => 6,
+        Refusal::LiveCount { index: _ } => 7,
+        Refusal::MaskCell { index: _ } => 8,
+        Refusal::Element {
+            tensor: _,
+            index: _,
+        } => 9,
+        Refusal::Position { position: _ } => 9,
+        Refusal::Profile => 10,
+        Refusal::Record { byte: _ } => 11,
+        Refusal::Room => 16,
     }
 }
 
-fn refused_at(number: u32, tensor: usize, index: usize) -> Numbers
-    ensures { λ r. ⌜ reportIn r ≡ refusalAt number tensor index ⌝ }
+fn tensor_of(refusal: Refusal) -> u64
+    ensures { λ r. ⌜ r ≡ tensorOf refusal ⌝ }
 {
-    Numbers {
-        number,
-        tensor: tensor as u64,
-        index: index as u64,
-        total: 0,
-        masked: 0,
+    match refusal {
+        Refusal::Limits => 0,
+        Refusal::HeadGroups => 0,
+        Refusal::Settings => 0,
+        Refusal::MaskShape => 0,
+        Refusal::InputLength => 0,
+        Refusal::OutputLength => 0,
+        Refusal::LiveCount { index: _ } => 0,
+        Refusal::MaskCell { index: _ } => 0,
+        Refusal::Element { tensor, index: _ } => tensor as u64,
+        Refusal::Position { position: _ } => 0,
+        Refusal::Profile => 0,
+        Refusal::Record { byte: _ } => 0,
+        Refusal::Room => 0,
     }
 }
 
-fn done(total: usize, masked: usize) -> Numbers
-    ensures { λ r. ⌜ reportIn r ≡ reportOf (Answer.Done total masked) ⌝ }
+pub fn place_of(refusal: Refusal) -> u64
+    ensures { λ r. ⌜ r ≡ placeOf refusal ⌝ }
 {
-    Numbers {
-        number: 0,
-        tensor: 0,
-        index: 0,
-        total: total as u64,
-        masked: masked as u64,
+    match refusal {
+        Refusal::Limits => 0,
+        Refusal::HeadGroups => 0,
+        Refusal::Settings => 0,
+        Refusal::MaskShape => 0,
+        Refusal::InputLength => 0,
+        Refusal::OutputLength => 0,
+        Refusal::LiveCount { index } => index as u64,
+        Refusal::MaskCell { index } => index as u64,
+        Refusal::Element { tensor: _, index } => index as u64,
+        Refusal::Position { position } => position as u64,
+        Refusal::Profile => 0,
+        Refusal::Record { byte } => byte as u64,
+        Refusal::Room => 0,
     }
 }
 
@@ -45,16 +73,19 @@ pub fn report(answer: Answer) -> Numbers
     ensures { λ r. ⌜ reportIn r ≡ reportOf answer ⌝ }
 {
     match answer {
-        Answer::Done { total, masked } => done(total, masked),
-        Answer::Limits => refused(1),
-        Answer::HeadGroups => refused(2),
-        Answer::Settings => refused(3),
-        Answer::MaskShape => refused(4),
-        Answer::InputLength => refused(5),
-        Answer::OutputLength => refused(6),
-        Answer::LiveCount { index } => refused_at(7, 0, index),
-        Answer::MaskCell { index } => refused_at(8, 0, index),
-        Answer::Element { tensor, index } => refused_at(9, tensor, index),
-        Answer::Profile => refused(10),
+        Answer::Done { total, masked } => Numbers {
+            number: 0,
+            tensor: 0,
+            index: 0,
+            total: total as u64,
+            masked: masked as u64,
+        },
+        Answer::NotDone(refusal) => Numbers {
+            number: number_of(refusal),
+            tensor: tensor_of(refusal),
+            index: place_of(refusal),
+            total: 0,
+            masked: 0,
+        },
     }
 }

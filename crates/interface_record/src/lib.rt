@@ -40,7 +40,7 @@ fn decode_mask(code: usize) -> MaskKind
         return MaskKind::Boolean;
     }
     if code == 2 {
-        return MaskKind::Float;
+        return MaskKind::FloatMask;
     }
     MaskKind::NoMask
 }

@@ -26,8 +26,8 @@ pub fn verdict(
     ensures { λ r. ⌜ ((y : Outputs) → WrittenLengths y output presentkey presentvalue scores work → r ≡ verdictOf call (inputsOf (now (query .entry)) (now (key .entry)) (now (value .entry)) (now (boolmask .entry)) (now (floatmask .entry)) (now (pastkey .entry)) (now (pastvalue .entry)) (now (live .entry))) y) ⌝ }
 {
     let by_record = shapes_record::record_verdict(call);
-    if let Verdict::Refused(answer) = by_record {
-        return Verdict::Refused(answer);
+    if let Verdict::Refused(refusal) = by_record {
+        return Verdict::Refused(refusal);
     }
     let by_lengths = shapes_lengths::lengths_verdict(
         call,
@@ -45,12 +45,12 @@ pub fn verdict(
         scores,
         work,
     );
-    if let Verdict::Refused(answer) = by_lengths {
-        return Verdict::Refused(answer);
+    if let Verdict::Refused(refusal) = by_lengths {
+        return Verdict::Refused(refusal);
     }
     let by_cells = contents_masks::cells_verdict(call, boolmask, floatmask, live);
-    if let Verdict::Refused(answer) = by_cells {
-        return Verdict::Refused(answer);
+    if let Verdict::Refused(refusal) = by_cells {
+        return Verdict::Refused(refusal);
     }
     contents_verdict::elements_verdict(call, query, key, value, pastkey, pastvalue, live)
 }

@@ -25,7 +25,7 @@ fn hide_where(row: &mut [f32], bytes: &[u8])
 // Each score has its cell added.
 fn add_cells(row: &mut [f32], cells: &[f32])
     requires { ⌜ length (now row) ≤ length (now cells) ⌝ }
-    ensures { λ _. ⌜ now (row .exit) ≡ maskedRowBy MaskKind.Float [] (now (cells .entry)) (λ j. j) (now (row .entry)) ⌝ }
+    ensures { λ _. ⌜ now (row .exit) ≡ maskedRowBy MaskKind.FloatMask [] (now (cells .entry)) (λ j. j) (now (row .entry)) ⌝ }
 {
     let mut j = 0;
     while j < row.len() {
@@ -62,7 +62,7 @@ fn mask_bytes(row: &mut [f32], bytes: &[u8], at: usize, width: usize)
 // A row of scores under a float mask whose cells for it start at `at`; a width of 1 is repeated.
 fn mask_cells(row: &mut [f32], cells: &[f32], at: usize, width: usize)
     requires { ⌜ (at < length (now cells)) × ((width ≡ 1 → ⊥) → at + length (now row) ≤ length (now cells)) ⌝ }
-    ensures { λ _. ⌜ now (row .exit) ≡ maskedRowBy MaskKind.Float [] (now (cells .entry)) (λ j. at + repeated width j) (now (row .entry)) ⌝ }
+    ensures { λ _. ⌜ now (row .exit) ≡ maskedRowBy MaskKind.FloatMask [] (now (cells .entry)) (λ j. at + repeated width j) (now (row .entry)) ⌝ }
 {
     if width == 1 {
         add_cell(row, cells[at]);
@@ -86,6 +86,6 @@ pub fn mask_row(
     match kind {
         MaskKind::NoMask => {}
         MaskKind::Boolean => mask_bytes(row, bytes, at, width),
-        MaskKind::Float => mask_cells(row, cells, at, width),
+        MaskKind::FloatMask => mask_cells(row, cells, at, width),
     }
 }

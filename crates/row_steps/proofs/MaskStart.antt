@@ -7,7 +7,7 @@ use native.Mathlib.Nat.{le-refl, add-zero}
 use lib.Dec.{eqb}
 use Rattle.call.specs.declared.Call.{Call}
 use Rattle.call.specs.declared.MaskKind.{MaskKind}
-use Rattle.call.specs.declared.MaskKind.the-variants.{NoMask, Boolean, Float as FloatMask}
+use Rattle.call.specs.declared.MaskKind.the-variants.{NoMask, Boolean, FloatMask}
 use Rattle.attention.specs.Admission.{repeated, maskIndex}
 use Rattle.row_steps.specs.Steps.{maskStart}
 

@@ -10,7 +10,7 @@ use Rattle.tensor_laws.specs.Layout.{tabulate}
 use Rattle.tensor_laws.proofs.Tabulate.{length-tabulate, getD-tabulate, tabulate-ext, tabulate-getD, map-elements}
 use Rattle.softmax.specs.Lists.{elementOf}
 use Rattle.call.specs.declared.MaskKind.{MaskKind}
-use Rattle.call.specs.declared.MaskKind.the-variants.{NoMask, Boolean, Float as FloatMask}
+use Rattle.call.specs.declared.MaskKind.the-variants.{NoMask, Boolean, FloatMask}
 use Rattle.attention.specs.Admission.{repeated}
 use Rattle.row_steps.specs.Steps.{maskedBy, maskedRowBy}
 use Rattle.tensor_laws.proofs.Tails.{partOf, getD-part}

@@ -12,17 +12,17 @@ use Rattle.softmax.specs.Lists.{elementOf, hidden, softmaxRowOf, maskedRowOf}
 use Rattle.softmax.specs.Cap.{cappedRowWhere}
 use Rattle.call.specs.declared.Call.{Call}
 use Rattle.call.specs.declared.MaskKind.{MaskKind}
-use Rattle.call.specs.declared.MaskKind.the-variants.{NoMask, Boolean, Float as FloatMask}
+use Rattle.call.specs.declared.MaskKind.the-variants.{NoMask, Boolean, FloatMask}
 use Rattle.call.specs.declared.ScoreMode.{ScoreMode}
 use Rattle.call.specs.declared.ScoreMode.the-variants.{NoScores, Mode}
-use Rattle.attention.specs.Admission.{maskIndex}
+use Rattle.attention.specs.Admission.{maskIndex, reach}
 
 -- ---- the run of positions that row i may see
 
--- The positions below the live count and, when causal, on or before the diagonal are a run from 0; this is its length.
+-- The positions below the live count and, when causal, up to the last causal one are a run from 0; this is its length.
 abbrev pub visibleOf : Call → (live i : ℕ) → ℕ
 visibleOf c live i =
-    let end = c .past + i + 1 in
+    let end = reach (c .form) (c .past) live i + 1 in
     cond (eqb (c .causal) 0) live (cond (leb live end) live end)
 
 -- ---- the mask

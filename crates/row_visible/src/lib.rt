@@ -3,12 +3,26 @@ ghost use mathlib.Core.Path.{_≡_};
 ghost use Prim.Native.Nat.{_+_, _<_};
 ghost use mathlib.Core.Bool.{true};
 ghost use Rattle.call.specs.Limits.{limitsHold, maskShapeHolds};
-ghost use Rattle.attention.specs.Admission.{repeated};
+ghost use Rattle.attention.specs.Admission.{reach, repeated};
 ghost use Rattle.row_steps.specs.Steps.{visibleOf, maskStart};
 use call::Call;
+use call::Form;
 use call::MaskKind;
 
-// How many positions, from 0, row i may see: those below the live count and, when causal, on or before the diagonal.
+// How far row i reaches when the call is causal.
+fn reach(call: Call, live: usize, i: usize) -> usize
+    requires { ⌜ call .past + i < 4096 ⌝ }
+    ensures { λ r. ⌜ r ≡ reach (call .form) (call .past) live i ⌝ }
+{
+    let form = call.form;
+    match form {
+        Form::Plain => call.past + i,
+        Form::Cached => call.past + i,
+        Form::Counted => call.past + i,
+    }
+}
+
+// How many positions, from 0, row i may see: those below the live count and, when causal, up to the last causal one.
 pub fn visible(call: Call, live: usize, i: usize) -> usize
     requires { ⌜ call .past + i < 4096 ⌝ }
     ensures { λ r. ⌜ r ≡ visibleOf call live i ⌝ }
@@ -17,7 +31,7 @@ pub fn visible(call: Call, live: usize, i: usize) -> usize
     if causal == 0 {
         return live;
     }
-    let end = call.past + i + 1;
+    let end = reach(call, live, i) + 1;
     if live <= end { live } else { end }
 }
 

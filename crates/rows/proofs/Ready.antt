@@ -11,7 +11,7 @@ use Rattle.tensor_laws.specs.Layout.{slot}
 use Rattle.tensor_laws.proofs.Written.{row-inside}
 use Rattle.call.specs.declared.Call.{Call}
 use Rattle.call.specs.declared.MaskKind.{MaskKind}
-use Rattle.call.specs.declared.MaskKind.the-variants.{NoMask, Boolean, Float as FloatMask}
+use Rattle.call.specs.declared.MaskKind.the-variants.{NoMask, Boolean, FloatMask}
 use Rattle.call.specs.Limits.{totalOf}
 use Rattle.call.specs.Lengths.{inBoolean, inFloat, maskLength}
 use Rattle.call.specs.Tensors.{Inputs}

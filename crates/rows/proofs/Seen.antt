@@ -14,13 +14,14 @@ use Rattle.softmax.specs.Lists.{hidden, isHidden}
 use Rattle.softmax.proofs.Bounds.{scoreBound, bounded-finite}
 use Rattle.call.specs.declared.Call.{Call}
 use Rattle.call.specs.declared.MaskKind.{MaskKind}
-use Rattle.call.specs.declared.MaskKind.the-variants.{NoMask, Boolean, Float as FloatMask}
+use Rattle.call.specs.declared.MaskKind.the-variants.{NoMask, Boolean, FloatMask}
 use Rattle.call.specs.Tensors.{Inputs, Outputs}
 use Rattle.call.specs.Limits.{totalOf}
 use Rattle.call.specs.Contents.{liveOf}
 use Rattle.call.proofs.Accepted.{Accepts}
-use Rattle.attention.specs.Admission.{repeated, maskIndex, maskCell, maskAdmits, causalAdmits, admits}
+use Rattle.attention.specs.Admission.{repeated, maskIndex, maskCell, maskAdmits, reach, causalAdmits, admits}
 use Rattle.attention.specs.Formula.{dotScore, withMask, maskedScore}
+use Rattle.attention.proofs.Reached.{causal-reach}
 use Rattle.attention.proofs.Facts.{live-le-total}
 use Rattle.attention.proofs.Bounded.{dot-score-bounded}
 use Rattle.row_steps.proofs.MaskStart.{repeated-zero}
@@ -29,40 +30,48 @@ use Rattle.admitted_sum.specs.Sums.{admittedBy}
 
 -- ---- the run of visible positions
 
-module _ (c : Call) (live i : ℕ) where
-  -- it ends at the live count, at the latest
-  pub visible-live : visibleOf c live i ≤ live
-  visible-live = go (eqb (c .causal) 0) (leb live (c .past + i + 1)) (nleb→lt live (c .past + i + 1))
+-- the length of a run that ends at the live count or, where p fails, before r + 1
+module _ (live r : ℕ) where
+  length-live : (p : Bool) → cond p live (cond (leb live (r + 1)) live (r + 1)) ≤ live
+  length-live p = go p (leb live (r + 1)) (nleb→lt live (r + 1))
     where
-      go : (p q : Bool) → (T (not q) → c .past + i + 1 < live) → cond p live (cond q live (c .past + i + 1)) ≤ live
+      go : (p q : Bool) → (T (not q) → r + 1 < live) → cond p live (cond q live (r + 1)) ≤ live
       go true q f = omega arith
       go false true f = omega arith
       go false false f = omega (arith, f tt)
 
-  -- a position is in it exactly where it is below the live count and the diagonal admits it
-  pub visible-admits : (j : ℕ) → (ltb j live && causalAdmits c i j) ≡ ltb j (visibleOf c live i)
-  visible-admits j = go (eqb (c .causal) 0) (leb live (c .past + i + 1)) (leb→le live (c .past + i + 1)) (nleb→lt live (c .past + i + 1))
+  length-admits : (j : ℕ) (p : Bool) → (ltb j live && (p || leb j r)) ≡ ltb j (cond p live (cond (leb live (r + 1)) live (r + 1)))
+  length-admits j p = go p (leb live (r + 1)) (leb→le live (r + 1)) (nleb→lt live (r + 1))
     where
-      diagonal : c .past + i + 1 ≤ live → (t : Bool) → (T t → j ≤ c .past + i) → (T (not t) → c .past + i < j) → (ltb j live && t) ≡ ltb j (c .past + i + 1)
-      diagonal l true f g = let m : j ≤ c .past + i = f tt in ap (λ (p : Bool). p && true) (lt-ltb j live (omega arith)) ∙ sym (lt-ltb j (c .past + i + 1) (omega arith))
-      diagonal l false f g = let m : c .past + i < j = g tt in and-false (ltb j live) ∙ sym (le-ltb j (c .past + i + 1) (omega arith))
+      diagonal : r + 1 ≤ live → (t : Bool) → (T t → j ≤ r) → (T (not t) → r < j) → (ltb j live && t) ≡ ltb j (r + 1)
+      diagonal l true f g = let m : j ≤ r = f tt in ap (λ (p : Bool). p && true) (lt-ltb j live (omega arith)) ∙ sym (lt-ltb j (r + 1) (omega arith))
+      diagonal l false f g = let m : r < j = g tt in and-false (ltb j live) ∙ sym (le-ltb j (r + 1) (omega arith))
         where
           and-false : (p : Bool) → (p && false) ≡ false
           and-false true = refl
           and-false false = refl
 
-      within : live ≤ c .past + i + 1 → (t : Bool) → (T t → j < live) → (t && leb j (c .past + i)) ≡ t
-      within l true f = let m : j < live = f tt in le-leb j (c .past + i) (omega arith)
+      within : live ≤ r + 1 → (t : Bool) → (T t → j < live) → (t && leb j r) ≡ t
+      within l true f = let m : j < live = f tt in le-leb j r (omega arith)
       within l false f = refl
 
       and-true : (p : Bool) → (p && true) ≡ p
       and-true true = refl
       and-true false = refl
 
-      go : (p q : Bool) → (T q → live ≤ c .past + i + 1) → (T (not q) → c .past + i + 1 < live) → (ltb j live && (p || leb j (c .past + i))) ≡ ltb j (cond p live (cond q live (c .past + i + 1)))
+      go : (p q : Bool) → (T q → live ≤ r + 1) → (T (not q) → r + 1 < live) → (ltb j live && (p || leb j r)) ≡ ltb j (cond p live (cond q live (r + 1)))
       go true q f g = and-true (ltb j live)
       go false true f g = within (f tt) (ltb j live) (ltb→lt j live)
-      go false false f g = let l : c .past + i + 1 < live = g tt in diagonal (omega arith) (leb j (c .past + i)) (leb→le j (c .past + i)) (nleb→lt j (c .past + i))
+      go false false f g = let l : r + 1 < live = g tt in diagonal (omega arith) (leb j r) (leb→le j r) (nleb→lt j r)
+
+module _ (c : Call) (live i : ℕ) where
+  -- it ends at the live count, at the latest
+  pub visible-live : visibleOf c live i ≤ live
+  visible-live = length-live live (reach (c .form) (c .past) live i) (eqb (c .causal) 0)
+
+  -- a position is in it exactly where it is below the live count and no later than the last causal one
+  pub visible-admits : (j : ℕ) → (ltb j live && causalAdmits c live i j) ≡ ltb j (visibleOf c live i)
+  visible-admits j = rw (causal-reach c live i j) (length-admits live (reach (c .form) (c .past) live i) j (eqb (c .causal) 0))
 
 -- ---- the mask's cells of a row
 

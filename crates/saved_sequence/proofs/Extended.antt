@@ -15,7 +15,7 @@ use Rattle.call.specs.declared.Call.{Call}
 use Rattle.attention.specs.Elements.{cellAt}
 use Rattle.session_file.specs.declared.Sizes.{Sizes}
 use Rattle.session_file.specs.declared.Reading.{Reading}
-use Rattle.session_file.specs.declared.Reading.the-variants.{Session as SessionRead, Refused}
+use Rattle.session_file.specs.declared.Reading.the-variants.{SessionRead, NotRead}
 use Rattle.session_file.specs.Form.{Session, sessionOf}
 use Rattle.session_file.specs.Reader.{sessionAt}
 use Rattle.session_laws.specs.Sessions.{cacheCell, cacheOf, cellBehind, bothOf}
@@ -80,11 +80,11 @@ both-history s history ps =
 
 abbrev sizesIn : Sizes → Reading → Sizes
 sizesIn z (SessionRead y n) = y
-sizesIn z (Refused r) = z
+sizesIn z (NotRead r) = z
 
 abbrev positionsIn : Reading → ℕ
 positionsIn (SessionRead z n) = n
-positionsIn (Refused r) = 0
+positionsIn (NotRead r) = 0
 
 pub append-extends : (s : Call) (history ps : List Position) → AppendExtends s history ps
 unfolding historySession

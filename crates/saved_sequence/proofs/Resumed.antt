@@ -4,7 +4,7 @@ use mathlib.Core.Bool.{true}
 use mathlib.Core.List.{List, [], _∷_, _++_}
 use lib.ListN.{length}
 use Rattle.call.specs.declared.Call.{Call}
-use Rattle.session_file.specs.declared.Reading.the-variants.{Session as SessionRead}
+use Rattle.session_file.specs.declared.Reading.the-variants.{SessionRead}
 use Rattle.session_file.specs.Sizes.{sizesHold}
 use Rattle.session_file.specs.Form.{fileOf}
 use Rattle.session_laws.specs.Sessions.{Savable}

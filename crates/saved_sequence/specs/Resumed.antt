@@ -5,7 +5,7 @@ use Prim.Native.Nat.{ℕ}
 use lib.ListN.{length, take}
 use Rattle.call.specs.declared.Call.{Call}
 use Rattle.session_file.specs.declared.Sizes.{Sizes}
-use Rattle.session_file.specs.declared.Reading.the-variants.{Session as SessionRead}
+use Rattle.session_file.specs.declared.Reading.the-variants.{SessionRead}
 use Rattle.session_file.specs.declared.Saving.the-variants.{Saved}
 use Rattle.session_file.specs.Form.{Session, sessionOf, fileOf}
 use Rattle.session_file.specs.Reader.{readOf, sessionAt}

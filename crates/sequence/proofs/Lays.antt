@@ -20,14 +20,14 @@ use Rattle.sequence.proofs.Places.{stateOf, chunkPosition, below-or-pas
 use Rattle.sequence.proofs.Plain.{query-cell, key-cell, value-cell}
 use Rattle.sequence.proofs.Step.{key-cache-cell, value-cache-cell}
 
--- query row i of the call is that of position P + i, and key and value row j those of position j
-pub record Lays (s : Call) (form : Form) (past n : ℕ) (x : Inputs) (ps : List Position) : Type 0 where
-  pub query : (b h i k : ℕ) → b < s .batches → h < s .qheads → i < n → k < s .size
-      → queryAt (causalCall s form past n) x b h i k ≡ positionOf ps (past + i) .query b h k
-  pub key : (b g j k : ℕ) → b < s .batches → g < s .kvheads → j < past + n → k < s .size
-      → keyAt (causalCall s form past n) x b g j k ≡ positionOf ps j .key b g k
-  pub value : (b g j k : ℕ) → b < s .batches → g < s .kvheads → j < past + n → k < s .vsize
-      → valueAt (causalCall s form past n) x b g j k ≡ positionOf ps j .value b g k
+-- query row i of the call is that of position at + i, and key and value row j, below the live count, those of position j
+pub record Lays (s : Call) (form : Form) (past qlen klen at live : ℕ) (x : Inputs) (ps : List Position) : Type 0 where
+  pub query : (b h i k : ℕ) → b < s .batches → h < s .qheads → i < qlen → k < s .size
+      → queryAt (causalCall s form past qlen klen) x b h i k ≡ positionOf ps (at + i) .query b h k
+  pub key : (b g j k : ℕ) → b < s .batches → g < s .kvheads → j < live → k < s .size
+      → keyAt (causalCall s form past qlen klen) x b g j k ≡ positionOf ps j .key b g k
+  pub value : (b g j k : ℕ) → b < s .batches → g < s .kvheads → j < live → k < s .vsize
+      → valueAt (causalCall s form past qlen klen) x b g j k ≡ positionOf ps j .value b g k
 
 -- ---- the plain call
 
@@ -36,7 +36,7 @@ no-past : (j : ℕ) (u : Float) (v : ℕ → Float) → cond (ltb j 0) u (v (j -
 no-past j u v = ap (λ t. cond t u (v (j - 0))) (le-ltb j 0 zero-le) ∙ ap v (sub-zero j)
 
 -- the plain call over positions lays them out
-pub plain-lays : (s : Call) (ps : List Position) → Lays s Plain 0 (length ps) (plainInputs s ps) ps
+pub plain-lays : (s : Call) (ps : List Position) → Lays s Plain 0 (length ps) (length ps) 0 (length ps) (plainInputs s ps) ps
 plain-lays s ps =
     let x = plainInputs s ps in
     record {
@@ -61,7 +61,7 @@ new-row p i u v = ap (λ t. cond t u (v (p + i - p))) (le-ltb (p + i) p (omega a
 -- a chunk on the caches of a history lays out the history and its positions, and so every list that begins with them
 pub chunk-lays : (s : Call) (history : List Position) (r : Chunk) (ps : List Position)
     → ((j : ℕ) → j < length history + lengthOf r → positionOf ps j ≡ positionOf (history ++ positionsOf s r) j)
-    → Lays s Cached (length history) (lengthOf r) (chunkInputs (stateOf s history) r) ps
+    → Lays s Cached (length history) (lengthOf r) (lengthOf r) (length history) (length history + lengthOf r) (chunkInputs (stateOf s history) r) ps
 chunk-lays s history r ps same =
     record {
       query = λ b h i k hb hh l hk. ap (λ p. p .query b h k) (sym (new i l));
@@ -89,7 +89,7 @@ chunk-lays s history r ps same =
     x = chunkInputs (stateOf s history) r
 
     c : Call
-    c = causalCall s Cached p n
+    c = causalCall s Cached p n n
 
     new : (i : ℕ) → i < n → positionOf ps (p + i) ≡ chunkPosition s r i
     new i l = same (p + i) (omega arith) ∙ position-new s r history i l

@@ -8,5 +8,4 @@ pub mod Outputs
 pub mod Kept
 pub mod Theorem
 pub mod Cuts
-pub mod General
 pub mod Settings

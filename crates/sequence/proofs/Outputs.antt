@@ -3,7 +3,9 @@ use mathlib.Core.Path.{_≡_, refl, sym, ap, _∙_}
 use mathlib.Core.List.{List, _++_}
 use mathlib.Core.Bool.{true}
 use Prim.Native.Nat.{ℕ, suc, _+_, _≤_, _<_}
+use native.Mathlib.Nat.{zero-add}
 use native.Mathlib.Omega.{arith}
+use lib.Dec.{leb}
 use lib.Ieee.{Float}
 use lib.ListN.{length}
 use Rattle.tensor_laws.specs.Layout.{tensorOf}
@@ -17,6 +19,7 @@ use Rattle.call.specs.declared.Answer.the-variants.{Done}
 use Rattle.call.specs.Tensors.{Inputs}
 use Rattle.call.specs.Contents.{liveIn}
 use Rattle.attention.specs.Elements.{keyHeadOf, queryAt, keyAt, valueAt}
+use Rattle.attention.specs.Admission.{causalAdmits}
 use Rattle.attention.specs.Formula.{effectiveScale, attentionOutput}
 use Rattle.attention.specs.Outcomes.{acceptedOf}
 use Rattle.attention.proofs.Facts.{grouped-head-lt}
@@ -35,23 +38,24 @@ rowOver s ps b h m k =
     (λ j. cappedWhere (s .softcap) (scoreOf (s .size) (λ c. positionOf ps m .query b h c) (λ c. positionOf ps j .key b (keyHeadOf s h) c) (effectiveScale s)))
     (λ j. positionOf ps j .value b (keyHeadOf s h) k)
 
--- the output of row i of a call that lays out positions is that of position P + i over them
-row-output : (s : Call) (form : Form) (past n : ℕ) (x : Inputs) → ((b : ℕ) → liveIn form (past + n) (x .live) b ≡ past + n)
-    → (ps : List Position) → Lays s form past n x ps
-    → (b h i k : ℕ) → b < s .batches → h < s .qheads → i < n → k < s .vsize → keyHeadOf s h < s .kvheads
-    → attentionOutput (causalCall s form past n) x b h i k ≡ rowOver s ps b h (past + i) k
-row-output s form past n x live ps lays b h i k hb hh hi hk hg =
-    let c = causalCall s form past n in
+-- the output of row i of a call that lays out positions, and whose row i reaches at + i, is that of position at + i over them
+row-output : (s : Call) (form : Form) (past qlen klen at live : ℕ) (x : Inputs) (ps : List Position)
+    → ((i j : ℕ) → causalAdmits (causalCall s form past qlen klen) live i j ≡ leb j (at + i)) → live ≤ past + klen
+    → Lays s form past qlen klen at live x ps
+    → (b h i k : ℕ) → liveIn form (past + klen) (x .live) b ≡ live → b < s .batches → h < s .qheads → i < qlen → at + i < live → k < s .vsize → keyHeadOf s h < s .kvheads
+    → attentionOutput (causalCall s form past qlen klen) x b h i k ≡ rowOver s ps b h (at + i) k
+row-output s form past qlen klen at live x ps reached most lays b h i k count hb hh hi hl hk hg =
+    let c = causalCall s form past qlen klen in
     let g = keyHeadOf s h in
-    causal-output c x refl refl live b h i k (omega arith)
-    ∙ agree-output (suc (past + i)) (λ j. true) (λ j. true)
+    causal-output c x refl b at (λ i j. ap (λ n. causalAdmits c n i j) count ∙ reached i j) h i k (rw count hl) (rw count most)
+    ∙ agree-output (suc (at + i)) (λ j. true) (λ j. true)
     (λ j. cappedWhere (s .softcap) (scoreOf (s .size) (queryAt c x b h i) (keyAt c x b g j) (effectiveScale c)))
-    (λ j. cappedWhere (s .softcap) (scoreOf (s .size) (λ c. positionOf ps (past + i) .query b h c) (λ c. positionOf ps j .key b g c) (effectiveScale s)))
+    (λ j. cappedWhere (s .softcap) (scoreOf (s .size) (λ c. positionOf ps (at + i) .query b h c) (λ c. positionOf ps j .key b g c) (effectiveScale s)))
     (λ j. valueAt c x b g j k) (λ j. positionOf ps j .value b g k)
     (λ j l. refl)
-    (λ j l e. ap (cappedWhere (s .softcap)) (agree-score (s .size) (queryAt c x b h i) (λ c. positionOf ps (past + i) .query b h c) (keyAt c x b g j) (λ c. positionOf ps j .key b g c) (effectiveScale c)
+    (λ j l e. ap (cappedWhere (s .softcap)) (agree-score (s .size) (queryAt c x b h i) (λ c. positionOf ps (at + i) .query b h c) (keyAt c x b g j) (λ c. positionOf ps j .key b g c) (effectiveScale c)
     (λ q hq. lays .query b h i q hb hh hi hq) (λ q hq. lays .key b g j q hb hg (omega arith) hq)
-    ∙ ap (scoreOf (s .size) (λ c. positionOf ps (past + i) .query b h c) (λ c. positionOf ps j .key b g c)) (scale-same c s refl refl)))
+    ∙ ap (scoreOf (s .size) (λ c. positionOf ps (at + i) .query b h c) (λ c. positionOf ps j .key b g c)) (scale-same c s refl refl)))
     (λ j l e. lays .value b g j k hb hg (omega arith) hk)
 
 module _ (s : Call) (history : List Position) (r : Chunk) where
@@ -60,7 +64,7 @@ module _ (s : Call) (history : List Position) (r : Chunk) where
   chunk-answer =
       let c = chunkCall s (length history) r in
       let x = chunkInputs (stateOf s history) r in
-      accepted-answer c x ∙ ap (Done (length history + lengthOf r)) (causal-none-masked c x refl refl (λ b. refl) (omega arith))
+      accepted-answer c x ∙ ap (Done (length history + lengthOf r)) (causal-none-masked c x refl (length history) (λ b i j hb. refl) (λ b hb. (omega arith, omega arith)))
 
   -- its presents are the caches of the history and its positions
   pub chunk-present-keys : acceptedOf (chunkCall s (length history) r) (chunkInputs (stateOf s history) r) .tensors .presentKey ≡ keyCache s (history ++ positionsOf s r)
@@ -88,6 +92,6 @@ module _ (s : Call) (history : List Position) (r : Chunk) where
       ≡ attentionOutput (plainCall s ps) (plainInputs s ps) b h (length history + i) k
   chunk-row p ps long same b h i k hb hh hi hk =
       let hg = grouped-head-lt (plainCall s (history ++ positionsOf s r)) (p .groups) h hh in
-      row-output s Cached (length history) (lengthOf r) (chunkInputs (stateOf s history) r) (λ b. refl) ps (chunk-lays s history r ps same) b h i k hb hh hi hk hg
+      row-output s Cached (length history) (lengthOf r) (lengthOf r) (length history) (length history + lengthOf r) (chunkInputs (stateOf s history) r) ps (λ i j. refl) (omega arith) (chunk-lays s history r ps same) b h i k refl hb hh hi (omega arith) hk hg
       ∙ ap (λ m. rowOver s ps b h m k) (omega arith)
-      ∙ sym (row-output s Plain 0 (length ps) (plainInputs s ps) (λ b. refl) ps (plain-lays s ps) b h (length history + i) k hb hh (omega arith) hk hg)
+      ∙ sym (row-output s Plain 0 (length ps) (length ps) 0 (length ps) (plainInputs s ps) ps (λ i j. refl) (omega arith) (plain-lays s ps) b h (length history + i) k (zero-add (length ps)) hb hh (omega arith) (omega arith) hk hg)

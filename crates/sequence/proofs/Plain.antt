@@ -53,9 +53,9 @@ pub record Limited (s : Call) (past n : ℕ) : Type 0 where
 
 module _ (s : Call) (form : Form) (past n : ℕ) where
   -- refusal 1 does not apply to a causal call exactly where its dimensions are limited, and P is 0 where the form wants it
-  pub limits→limited : limitsHold (causalCall s form past n) ≡ true → Limited s past n
+  pub limits→limited : limitsHold (causalCall s form past n n) ≡ true → Limited s past n
   limits→limited e =
-      let f = limits→facts (causalCall s form past n) e in
+      let f = limits→facts (causalCall s form past n n) e in
       record {
         dimensions = record {
           batches = (f .batches-some, f .batches-most);
@@ -68,11 +68,11 @@ module _ (s : Call) (form : Form) (past n : ℕ) where
         total = f .total-most;
       }
 
-  pub limited→limits : pastAllowed form past ≡ true → Limited s past n → limitsHold (causalCall s form past n) ≡ true
+  pub limited→limits : pastAllowed form past ≡ true → Limited s past n → limitsHold (causalCall s form past n n) ≡ true
   limited→limits p r =
       let d = r .dimensions in
       let most : n ≤ 2048 = omega arith in
-      facts→limits (causalCall s form past n)
+      facts→limits (causalCall s form past n n)
       (record {
         batches-some = d .batches .0;
         batches-most = d .batches .1;

@@ -17,5 +17,5 @@ pub record SameSettings (s c : Call) : Type 0 where
   pub vsize : c .vsize ≡ s .vsize
 
 -- of the plain call over all positions and of each chunk's call
-pub settings-handed-on : (s : Call) (form : Form) (past n : ℕ) → SameSettings s (causalCall s form past n)
+pub settings-handed-on : (s : Call) (form : Form) (past n : ℕ) → SameSettings s (causalCall s form past n n)
 settings-handed-on s form past n = record { scale = refl; softcap = refl; mode = refl; rank = refl; batches = refl; qheads = refl; kvheads = refl; size = refl; vsize = refl }

@@ -30,7 +30,6 @@ use Rattle.sequence.specs.Chunks.{Chunk, lengthOf, lentOf, chunkCall, ch
 use Rattle.sequence.proofs.Cells.{nothing→good, good→nothing, nothing→good-incoming, good→nothing-incoming}
 use Rattle.sequence.proofs.Places.{stateOf, length-joined, AllGood, good-before, good-chunk, good-joined}
 use Rattle.sequence.proofs.Plain.{split, limits→limited, limited→limits, PlainGood, plain→good, good→plain}
-use Rattle.sequence.proofs.Refusing.{refused-not-done}
 
 -- ---- the caches of a history
 
@@ -162,7 +161,7 @@ module _ (s : Call) (history : List Position) (r : Chunk) where
           absurd (let z : _≡_ {A = ℕ} 0 1 = cc in omega arith)
       by-verdict taken (Refused a) p =
           let o = refused-outcome c x (lentOf r) a p in
-          (ap (λ o. isDone (o .answer)) o ∙ refused-not-done c x (lentOf r) a p, ap (λ o. o .tensors) o)
+          (ap (λ o. isDone (o .answer)) o, ap (λ o. o .tensors) o)
 
       by-entry : (t : Bool) → takes (r .entry) c ≡ t → (isDone (outcomeAt (r .entry) c x (lentOf r) .answer) ≡ false) × (outcomeAt (r .entry) c x (lentOf r) .tensors ≡ lentOf r)
       by-entry true taken =

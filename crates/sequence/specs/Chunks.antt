@@ -10,6 +10,7 @@ use Rattle.tensor_laws.specs.Layout.{tabulate}
 use Rattle.call.specs.declared.Call.{Call}
 use Rattle.call.specs.declared.Form.the-variants.{Cached}
 use Rattle.call.specs.declared.Answer.{Answer}
+use Rattle.call.specs.declared.Answer.the-variants.{Done, NotDone}
 use Rattle.call.specs.Answers.{reportOf}
 use Rattle.call.specs.declared.Verdict.{Verdict}
 use Rattle.call.specs.declared.Verdict.the-variants.{Accepted, Refused}
@@ -50,7 +51,7 @@ start = record { past = 0; key = []; value = [] }
 -- ---- the call of a chunk, and what it leaves
 
 abbrev pub chunkCall : Call → ℕ → Chunk → Call
-chunkCall s past r = causalCall s Cached past (lengthOf r)
+chunkCall s past r = causalCall s Cached past (lengthOf r) (lengthOf r)
 
 -- a tensor that the general entry alone is lent: masks, live counts and scores
 abbrev pub lentTo : {A : Type 0} → Entry → List A → List A
@@ -84,9 +85,10 @@ unfoldable pub chunkOutcome : Call → State → Chunk → Outcome
 unfolding attentionOf stepOf
 chunkOutcome s st r = outcomeAt (r .entry) (chunkCall s (st .past) r) (chunkInputs st r) (lentOf r)
 
--- the call was accepted: the answer has the number 0
+-- the call was accepted
 abbrev pub isDone : Answer → Bool
-isDone a = eqb (reportOf a .number) 0
+isDone (Done total masked) = true
+isDone (NotDone r) = false
 
 -- the state after an answer: T and the presents where it is done, and the state before otherwise
 abbrev pub nextState : Answer → State → Outputs → State

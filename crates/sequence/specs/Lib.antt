@@ -2,4 +2,3 @@ pub mod Positions
 pub mod Chunks
 pub mod Demand
 pub mod Cuts
-pub mod General

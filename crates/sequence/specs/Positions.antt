@@ -26,9 +26,9 @@ nowhere = record { query = λ b h k. nan; key = λ b h k. nan; value = λ b h k.
 abbrev pub positionOf : List Position → ℕ → Position
 positionOf ps i = getD ps i nowhere
 
--- the settings as a causal call without a mask, of that form and those lengths
-abbrev pub causalCall : Call → Form → (past n : ℕ) → Call
-causalCall s form past n = record {
+-- the settings as a causal call without a mask, of that form and with those P, Sq and Sk
+abbrev pub causalCall : Call → Form → (past qlen klen : ℕ) → Call
+causalCall s form past qlen klen = record {
   form = form;
   mask = NoMask;
   scale = s .scale;
@@ -39,8 +39,8 @@ causalCall s form past n = record {
   batches = s .batches;
   qheads = s .qheads;
   kvheads = s .kvheads;
-  qlen = n;
-  klen = n;
+  qlen = qlen;
+  klen = klen;
   past = past;
   size = s .size;
   vsize = s .vsize;
@@ -52,7 +52,7 @@ causalCall s form past n = record {
 
 -- the one plain call over the positions
 abbrev pub plainCall : Call → List Position → Call
-plainCall s ps = causalCall s Plain 0 (length ps)
+plainCall s ps = causalCall s Plain 0 (length ps) (length ps)
 
 -- its Q, K and V hold the positions in rising order
 unfoldable pub plainInputs : Call → List Position → Inputs

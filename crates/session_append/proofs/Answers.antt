@@ -15,10 +15,10 @@ use Rattle.contents.specs.Faults.{indexOr}
 use Rattle.records.specs.Records.{writtenAt}
 use Rattle.records.proofs.Fronts.{written-part}
 use Rattle.session_file.specs.declared.Sizes.{Sizes}
-use Rattle.session_file.specs.declared.Refusal.{Refusal}
-use Rattle.session_file.specs.declared.Refusal.the-variants.{Limits, InputLength, Element, Room}
+use Rattle.call.specs.declared.Refusal.{Refusal}
+use Rattle.call.specs.declared.Refusal.the-variants.{Limits, InputLength, Position, Room}
 use Rattle.session_file.specs.declared.Reading.{Reading}
-use Rattle.session_file.specs.declared.Reading.the-variants.{Session as SessionRead, Refused}
+use Rattle.session_file.specs.declared.Reading.the-variants.{SessionRead, NotRead}
 use Rattle.session_file.specs.declared.Saving.the-variants.{Saved}
 use Rattle.session_file.specs.Below.{leastFrom, joined}
 use Rattle.session_file.specs.Sizes.{sizesHold, rowsOf, recordLength, positionAt}
@@ -65,12 +65,12 @@ module _ (z : Sizes) (n : ℕ) (buffer : List ℕ) (count : ℕ) (keys values : 
     wrong-lengths e = rw (le-leb (n + count) 2048 h, e)
 
     module _ (e : cachesFit z count (length keys) (length values) ≡ true) where
-      at-fault : (p : ℕ) → leastFrom (rowsFault (sessionOf z count keys values)) count 0 ≡ at p → refusedWith (Element (n + p)) buffer ≡ appendedTo (SessionRead z n) buffer count keys values
+      at-fault : (p : ℕ) → leastFrom (rowsFault (sessionOf z count keys values)) count 0 ≡ at p → refusedWith (Position (n + p)) buffer ≡ appendedTo (SessionRead z n) buffer count keys values
       unfolding appendedTo writtenBehind
       at-fault p f = rw (le-leb (n + count) 2048 h, e, f)
 
       -- a fault was found at p
-      pub wrong-element : (p : ℕ) → p ≡ indexOr (leastFrom (rowsFault (sessionOf z count keys values)) count 0) count → p < count → refusedWith (Element (n + p)) buffer ≡ appendedTo (SessionRead z n) buffer count keys values
+      pub wrong-element : (p : ℕ) → p ≡ indexOr (leastFrom (rowsFault (sessionOf z count keys values)) count 0) count → p < count → refusedWith (Position (n + p)) buffer ≡ appendedTo (SessionRead z n) buffer count keys values
       wrong-element p f l =
           let found = leastFrom (rowsFault (sessionOf z count keys values)) count 0 in
           at-fault p (index-found found count (omega arith) ∙ ap at (sym f))
@@ -114,6 +114,6 @@ module _ (buffer : List ℕ) (used count : ℕ) (keys values : List Float) where
   unfolding appendOf
   read-first reading w h e f = rw (le-leb used (length buffer) h, e) f
 
-  pub file-refused : (r : Refusal) → used ≤ length buffer → readOf (take used buffer) ≡ Refused r → refusedWith r buffer ≡ appendOf buffer used count keys values
+  pub file-refused : (r : Refusal) → used ≤ length buffer → readOf (take used buffer) ≡ NotRead r → refusedWith r buffer ≡ appendOf buffer used count keys values
   unfolding appendedTo
-  file-refused r h e = read-first (Refused r) (refusedWith r buffer) h e refl
+  file-refused r h e = read-first (NotRead r) (refusedWith r buffer) h e refl

@@ -3,10 +3,10 @@ ghost use mathlib.Core.Path.{_≡_};
 ghost use mathlib.Core.Bool.{true};
 ghost use Prim.Native.Nat.{_≤_};
 ghost use Rattle.session_file.specs.Sizes.{sizesHold};
-ghost use Rattle.session_file.specs.declared.Reading.the-variants.{Session as SessionRead};
+ghost use Rattle.session_file.specs.declared.Reading.the-variants.{SessionRead};
 ghost use Rattle.session_file.specs.Writer.{written, appendedTo, appendOf};
+use call::Refusal;
 use session_file::Reading;
-use session_file::Refusal;
 use session_file::Saving;
 use session_file::Sizes;
 
@@ -24,21 +24,21 @@ fn append_to(
     ensures { λ r. ⌜ written r (now (buffer .exit)) ≡ appendedTo (SessionRead sizes n) (now (buffer .entry)) count (now (keys .entry)) (now (values .entry)) ⌝ }
 {
     if 2048 - n < count {
-        return Saving::Refused(Refusal::Limits);
+        return Saving::NotSaved(Refusal::Limits);
     }
     if !session_sizes::caches_fit(sizes, count, keys.len(), values.len()) {
-        return Saving::Refused(Refusal::InputLength);
+        return Saving::NotSaved(Refusal::InputLength);
     }
     let fault = session_rows::first_fault(keys, values, sizes, count);
     if fault < count {
-        return Saving::Refused(Refusal::Element {
+        return Saving::NotSaved(Refusal::Position {
             position: n + fault,
         });
     }
     let from = session_sizes::position_at(sizes, n);
     let to = session_sizes::position_at(sizes, n + count);
     if buffer.len() < to {
-        return Saving::Refused(Refusal::Room);
+        return Saving::NotSaved(Refusal::Room);
     }
     session_positions::write_positions(keys, values, sizes, count, &mut buffer[from..to]);
     Saving::Saved {
@@ -52,11 +52,11 @@ pub fn append(buffer: &mut [u8], used: usize, count: usize, keys: &[f32], values
     ensures { λ r. ⌜ written r (now (buffer .exit)) ≡ appendOf (now (buffer .entry)) used count (now (keys .entry)) (now (values .entry)) ⌝ }
 {
     if buffer.len() < used {
-        return Saving::Refused(Refusal::Room);
+        return Saving::NotSaved(Refusal::Room);
     }
     match session_inspect::inspect(&buffer[..used]) {
-        Reading::Refused(refusal) => Saving::Refused(refusal),
-        Reading::Session { sizes, positions } => {
+        Reading::NotRead(refusal) => Saving::NotSaved(refusal),
+        Reading::SessionRead { sizes, positions } => {
             append_to(buffer, sizes, positions, count, keys, values)
         }
     }

@@ -7,7 +7,7 @@ ghost use Rattle.records.specs.Records.{writtenAt};
 ghost use Rattle.session_file.specs.Sizes.{sizesHold};
 ghost use Rattle.session_file.specs.Form.{sizesBytes};
 ghost use Rattle.session_file.specs.Writer.{written, beginOf};
-use session_file::Refusal;
+use call::Refusal;
 use session_file::Saving;
 use session_file::Sizes;
 
@@ -35,7 +35,7 @@ pub fn begin(buffer: &mut [u8], sizes: Sizes) -> Saving
                 used: 14,
             };
         }
-        return Saving::Refused(Refusal::Room);
+        return Saving::NotSaved(Refusal::Room);
     }
-    Saving::Refused(Refusal::Limits)
+    Saving::NotSaved(Refusal::Limits)
 }

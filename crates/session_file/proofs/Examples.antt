@@ -11,10 +11,10 @@ use Rattle.tensor_laws.specs.Layout.{tabulate}
 use Rattle.call.specs.Contents.{elementFault}
 use Rattle.records.specs.Numbers.{f32Bytes, rowBytes, f32At}
 use Rattle.session_file.specs.declared.Sizes.{Sizes}
-use Rattle.session_file.specs.declared.Refusal.the-variants.{Limits, InputLength, Element, Record, Room}
+use Rattle.call.specs.declared.Refusal.the-variants.{Limits, InputLength, Position, Record, Room}
 use Rattle.session_file.specs.declared.Reading.{Reading}
-use Rattle.session_file.specs.declared.Reading.the-variants.{Session as SessionRead, Refused}
-use Rattle.session_file.specs.declared.Saving.the-variants.{Saved, Refused as NotSaved}
+use Rattle.session_file.specs.declared.Reading.the-variants.{SessionRead, NotRead}
+use Rattle.session_file.specs.declared.Saving.the-variants.{Saved, NotSaved}
 use Rattle.session_file.specs.Below.{numberBelow, leastFrom, joined}
 use Rattle.session_file.specs.Sizes.{sizesHold}
 use Rattle.session_file.specs.Form.{Session, sessionOf, pairBytes, positionBytes, fileOf}
@@ -52,7 +52,7 @@ session-of-the-example = refl
 -- ---- the reader
 
 -- every cut: 11 at byte 0 without the whole first record, no position without the whole second one
-cuts-of-the-example : map (λ n. readOf (take n (first ++ position))) (tabulate 29 (λ n. n)) ≡ replicate 14 (Refused (Record 0)) ++ (replicate 14 (SessionRead ones 0) ++ (SessionRead ones 1 ∷ []))
+cuts-of-the-example : map (λ n. readOf (take n (first ++ position))) (tabulate 29 (λ n. n)) ≡ replicate 14 (NotRead (Record 0)) ++ (replicate 14 (SessionRead ones 0) ++ (SessionRead ones 1 ∷ []))
 unfolding readOf sizesHold walkFrom nextOf positionFault numberBelow elementFault f32At ofBits ofFields odd trailingZeros le lt eq neg tabulate
 cuts-of-the-example = refl
 
@@ -87,19 +87,19 @@ damaged : map readOf (
     ∷ (first ++ (first ++ positionOf 8 infinite oneBytes))
     ∷ (first ++ (positionOf 8 oneBytes infinite ++ first))
     ∷ [])
-    ≡ (Refused (Record 0)
-    ∷ Refused (Record 0)
-    ∷ Refused Limits
-    ∷ Refused Limits
-    ∷ Refused (Record 0)
-    ∷ Refused (Record 14)
-    ∷ Refused (Record 14)
-    ∷ Refused (Record 14)
+    ≡ (NotRead (Record 0)
+    ∷ NotRead (Record 0)
+    ∷ NotRead Limits
+    ∷ NotRead Limits
+    ∷ NotRead (Record 0)
+    ∷ NotRead (Record 14)
+    ∷ NotRead (Record 14)
+    ∷ NotRead (Record 14)
     ∷ SessionRead ones 0
-    ∷ Refused (Element 1)
+    ∷ NotRead (Position 1)
     ∷ SessionRead ones 1
-    ∷ Refused (Record 14)
-    ∷ Refused (Element 0)
+    ∷ NotRead (Record 14)
+    ∷ NotRead (Position 0)
     ∷ [])
 unfolding readOf sizesHold walkFrom nextOf positionFault numberBelow elementFault f32At ofBits ofFields odd trailingZeros le lt eq neg
 damaged = refl
@@ -118,7 +118,7 @@ edges : map reads (
     ∷ (0 ∷ 0 ∷ 128 ∷ 255 ∷ [])
     ∷ (1 ∷ 0 ∷ 192 ∷ 255 ∷ [])
     ∷ [])
-    ≡ (SessionRead ones 1 ∷ SessionRead ones 1 ∷ SessionRead ones 1 ∷ SessionRead ones 1 ∷ Refused (Element 0) ∷ Refused (Element 0) ∷ Refused (Element 0) ∷ Refused (Element 0) ∷ [])
+    ≡ (SessionRead ones 1 ∷ SessionRead ones 1 ∷ SessionRead ones 1 ∷ SessionRead ones 1 ∷ NotRead (Position 0) ∷ NotRead (Position 0) ∷ NotRead (Position 0) ∷ NotRead (Position 0) ∷ [])
 unfolding readOf sizesHold walkFrom nextOf positionFault numberBelow elementFault f32At ofBits ofFields odd trailingZeros le lt eq neg
 edges = refl
 
@@ -127,7 +127,7 @@ edges = refl
 abbrev most : List ℕ → Reading
 most tail = walkFrom ones (replicate (14 + 2048 * 14) 0 ++ tail) 0 2048
 
-at-the-limit : map most (position ∷ take 6 position ∷ first ∷ take 5 position ∷ []) ≡ Refused Limits ∷ Refused Limits ∷ Refused (Record 28686) ∷ SessionRead ones 2048 ∷ []
+at-the-limit : map most (position ∷ take 6 position ∷ first ∷ take 5 position ∷ []) ≡ NotRead Limits ∷ NotRead Limits ∷ NotRead (Record 28686) ∷ SessionRead ones 2048 ∷ []
 unfolding walkFrom nextOf
 at-the-limit = refl
 
@@ -167,6 +167,6 @@ order : map (λ (w : Written). w .answer) (
     ∷ adds 28 2 (one ∷ one ∷ []) (one ∷ two ∷ [])
     ∷ adds 20 0 [] []
     ∷ [])
-    ≡ NotSaved Room ∷ NotSaved (Record 0) ∷ NotSaved Limits ∷ NotSaved InputLength ∷ NotSaved (Element 2) ∷ NotSaved Room ∷ Saved 0 14 ∷ []
+    ≡ NotSaved Room ∷ NotSaved (Record 0) ∷ NotSaved Limits ∷ NotSaved InputLength ∷ NotSaved (Position 2) ∷ NotSaved Room ∷ Saved 0 14 ∷ []
 unfolding appendOf appendedTo writtenBehind leastFrom rowsFault rowFault readOf sizesHold walkFrom nextOf positionFault numberBelow elementFault f32At ofBits ofFields odd trailingZeros le lt eq neg
 order = refl

@@ -13,9 +13,9 @@ use Rattle.records.specs.Records.{headIs}
 use Rattle.session_file.specs.declared.Sizes.{Sizes}
 use Rattle.session_file.specs.declared.Next.{Next}
 use Rattle.session_file.specs.declared.Next.the-variants.{Ended, Wrong, Cut, Whole}
-use Rattle.session_file.specs.declared.Refusal.the-variants.{Limits, Record}
+use Rattle.call.specs.declared.Refusal.the-variants.{Limits, Record}
 use Rattle.session_file.specs.declared.Reading.{Reading}
-use Rattle.session_file.specs.declared.Reading.the-variants.{Session as SessionRead, Refused}
+use Rattle.session_file.specs.declared.Reading.the-variants.{SessionRead, NotRead}
 use Rattle.session_file.specs.Sizes.{sizesHold, mostPositions, payloadLength, recordLength, positionAt}
 use Rattle.session_file.specs.Reader.{nextOf, positionFault, atMost, onward, walkFrom, sizesAt, firstWhole, readOf}
 
@@ -57,15 +57,15 @@ whole→record z file p e =
 
 abbrev isSession : Reading → Bool
 isSession (SessionRead z n) = true
-isSession (Refused r) = false
+isSession (NotRead r) = false
 
 abbrev sizesIn : Sizes → Reading → Sizes
 sizesIn z (SessionRead y n) = y
-sizesIn z (Refused r) = z
+sizesIn z (NotRead r) = z
 
 abbrev positionsIn : Reading → ℕ
 positionsIn (SessionRead z n) = n
-positionsIn (Refused r) = 0
+positionsIn (NotRead r) = 0
 
 -- the walk from position p on stops at n: the positions between are whole and without fault
 record Walked (z : Sizes) (file : List ℕ) (more p : ℕ) (y : Sizes) (n : ℕ) : Type 0 where
@@ -139,7 +139,7 @@ walked→standing z y file n f h s w =
     and-first false b e = absurd (true≢false (sym e))
 
 read-by : (file : List ℕ) (y : Sizes) (n : ℕ) (a b : Bool) → firstWhole file ≡ a → sizesHold (sizesAt file) ≡ b
-    → cond a (cond b (walkFrom (sizesAt file) file mostPositions 0) (Refused Limits)) (Refused (Record 0)) ≡ SessionRead y n → Standing file y n
+    → cond a (cond b (walkFrom (sizesAt file) file mostPositions 0) (NotRead Limits)) (NotRead (Record 0)) ≡ SessionRead y n → Standing file y n
 read-by file y n true true f h e = walked→standing (sizesAt file) y file n f h refl (walk→walked (sizesAt file) file mostPositions 0 y n e)
 read-by file y n true false f h e = absurd (not-session _ y n refl e)
 read-by file y n false b f h e = absurd (not-session _ y n refl e)

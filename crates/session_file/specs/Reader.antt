@@ -10,11 +10,11 @@ use Rattle.call.specs.Contents.{elementFault}
 use Rattle.records.specs.Numbers.{u16At, f32At}
 use Rattle.records.specs.Records.{headIs}
 use Rattle.session_file.specs.declared.Sizes.{Sizes}
-use Rattle.session_file.specs.declared.Refusal.the-variants.{Limits, OutputLength, Element, Record}
+use Rattle.call.specs.declared.Refusal.the-variants.{Limits, OutputLength, Position, Record}
 use Rattle.session_file.specs.declared.Next.{Next}
 use Rattle.session_file.specs.declared.Next.the-variants.{Ended, Wrong, Cut, Whole}
 use Rattle.session_file.specs.declared.Reading.{Reading}
-use Rattle.session_file.specs.declared.Reading.the-variants.{Session as SessionRead, Refused}
+use Rattle.session_file.specs.declared.Reading.the-variants.{SessionRead, NotRead}
 use Rattle.session_file.specs.Below.{numberBelow, anyBelow}
 use Rattle.session_file.specs.Sizes.{sizesHold, mostPositions, rowsOf, pairLength, payloadLength, recordLength, positionAt}
 use Rattle.session_file.specs.Form.{Session, sessionOf}
@@ -39,16 +39,16 @@ positionFault z file p = anyBelow (payloadFault file (positionAt z p + 6)) (rows
 -- 2,048 positions are whole: a right head is one too many, its payload not looked at
 abbrev pub atMost : Sizes → ℕ → Next → Reading
 atMost z p Ended = SessionRead z p
-atMost z p Wrong = Refused (Record (positionAt z p))
-atMost z p Cut = Refused Limits
-atMost z p Whole = Refused Limits
+atMost z p Wrong = NotRead (Record (positionAt z p))
+atMost z p Cut = NotRead Limits
+atMost z p Whole = NotRead Limits
 
 -- The walk after p whole positions, with room for some more. It goes on behind a whole record without fault.
 abbrev pub onward : Sizes → ℕ → Next → Bool → Reading → Reading
 onward z p Ended fault rest = SessionRead z p
-onward z p Wrong fault rest = Refused (Record (positionAt z p))
+onward z p Wrong fault rest = NotRead (Record (positionAt z p))
 onward z p Cut fault rest = SessionRead z p
-onward z p Whole true rest = Refused (Element p)
+onward z p Whole true rest = NotRead (Position p)
 onward z p Whole false rest = rest
 
 unfoldable pub walkFrom : Sizes → List ℕ → (more p : ℕ) → Reading
@@ -68,7 +68,7 @@ firstWhole file = leb 14 (length file) && headIs file 0 8 1
 
 unfoldable pub readOf : List ℕ → Reading
 unfolding sizesHold walkFrom
-readOf file = let walk = walkFrom (sizesAt file) file mostPositions 0 in cond (firstWhole file) (cond (sizesHold (sizesAt file)) walk (Refused Limits)) (Refused (Record 0))
+readOf file = let walk = walkFrom (sizesAt file) file mostPositions 0 in cond (firstWhole file) (cond (sizesHold (sizesAt file)) walk (NotRead Limits)) (NotRead (Record 0))
 
 -- ---- the positions, in cache order
 
@@ -100,10 +100,10 @@ cachesFit z n keys values = eqb keys (rowsOf z * n * z .size) && eqb values (row
 
 unfoldable pub loadedOf : Reading → (file : List ℕ) → (keys values : List Float) → Loaded
 unfolding sessionAt
-loadedOf (Refused r) file keys values = loaded (Refused r) keys values
+loadedOf (NotRead r) file keys values = loaded (NotRead r) keys values
 loadedOf (SessionRead z n) file keys values =
     let found = sessionAt z file n in
-    cond (cachesFit z n (length keys) (length values)) (loaded (SessionRead z n) (found .keys) (found .values)) (loaded (Refused OutputLength) keys values)
+    cond (cachesFit z n (length keys) (length values)) (loaded (SessionRead z n) (found .keys) (found .values)) (loaded (NotRead OutputLength) keys values)
 
 -- the file's own refusal first, then 6
 unfoldable pub loadOf : (file : List ℕ) → (keys values : List Float) → Loaded

@@ -1,16 +1,16 @@
 -- The sizes of a session, their limits, and how long its records are. Definitions only.
 use mathlib.Core.Bool.{Bool, _&&_}
 use Prim.Native.Nat.{ℕ, _+_, _*_}
-use Rattle.call.specs.Limits.{within}
+use Rattle.call.specs.Limits.{mostBatches, mostLength, mostSize, within, headsAllowed}
 use Rattle.session_file.specs.declared.Sizes.{Sizes}
 
 -- B, Hkv, D and Dv within the limits of a call
 unfoldable pub sizesHold : Sizes → Bool
-sizesHold z = within 1 8 (z .batches) && within 1 32 (z .kvheads) && within 1 256 (z .size) && within 1 256 (z .vsize)
+sizesHold z = within 1 mostBatches (z .batches) && headsAllowed (z .kvheads) && within 1 mostSize (z .size) && within 1 mostSize (z .vsize)
 
 -- how many positions a session may have
 abbrev pub mostPositions : ℕ
-mostPositions = 2048
+mostPositions = mostLength
 
 -- the rows of a position, of keys and of values: one for each batch and key head. Row r is that of batch r / Hkv and key head r % Hkv.
 abbrev pub rowsOf : Sizes → ℕ

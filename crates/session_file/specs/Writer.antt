@@ -8,12 +8,12 @@ use lib.ListN.{length, getD, take}
 use Rattle.call.specs.Contents.{Found, nothing, at, elementFault}
 use Rattle.records.specs.Records.{writtenAt}
 use Rattle.session_file.specs.declared.Sizes.{Sizes}
-use Rattle.session_file.specs.declared.Refusal.{Refusal}
-use Rattle.session_file.specs.declared.Refusal.the-variants.{Limits, InputLength, Element, Room}
+use Rattle.call.specs.declared.Refusal.{Refusal}
+use Rattle.call.specs.declared.Refusal.the-variants.{Limits, InputLength, Position, Room}
 use Rattle.session_file.specs.declared.Reading.{Reading}
-use Rattle.session_file.specs.declared.Reading.the-variants.{Session as SessionRead, Refused}
+use Rattle.session_file.specs.declared.Reading.the-variants.{SessionRead, NotRead}
 use Rattle.session_file.specs.declared.Saving.{Saving}
-use Rattle.session_file.specs.declared.Saving.the-variants.{Saved, Refused as NotSaved}
+use Rattle.session_file.specs.declared.Saving.the-variants.{Saved, NotSaved}
 use Rattle.session_file.specs.Below.{numberBelow, anyBelow, leastFrom, joined}
 use Rattle.session_file.specs.Sizes.{sizesHold, mostPositions, rowsOf, positionAt}
 use Rattle.session_file.specs.Form.{Session, sessionOf, cacheRow, positionBytes, sizesBytes}
@@ -56,7 +56,7 @@ rowsFault s p =
 -- the positions of a session behind n positions of a file: elements, then room for all of them
 unfoldable pub writtenBehind : Found → List ℕ → (n : ℕ) → Session → Written
 unfolding joined positionBytes
-writtenBehind (at p) buffer n new = refusedWith (Element (n + p)) buffer
+writtenBehind (at p) buffer n new = refusedWith (Position (n + p)) buffer
 writtenBehind nothing buffer n new =
     let z = new .sizes in
     let m = n + new .positions in
@@ -67,7 +67,7 @@ writtenBehind nothing buffer n new =
 -- a position above the 2,048th, then the rows' lengths, then the rest
 unfoldable pub appendedTo : Reading → List ℕ → (count : ℕ) → (keys values : List Float) → Written
 unfolding leastFrom rowsFault writtenBehind
-appendedTo (Refused r) buffer count keys values = refusedWith r buffer
+appendedTo (NotRead r) buffer count keys values = refusedWith r buffer
 appendedTo (SessionRead z n) buffer count keys values =
     let new = sessionOf z count keys values in
     let rest = writtenBehind (leastFrom (rowsFault new) count 0) buffer n new in

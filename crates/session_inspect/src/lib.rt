@@ -3,8 +3,8 @@ ghost use mathlib.Core.Path.{_≡_};
 ghost use Prim.Native.Nat.{_≤_};
 ghost use lib.ListN.{length};
 ghost use Rattle.session_file.specs.Reader.{sizesAt, readOf};
+use call::Refusal;
 use session_file::Reading;
-use session_file::Refusal;
 use session_file::Sizes;
 
 // The sizes that the first record holds.
@@ -30,8 +30,8 @@ pub fn inspect(file: &[u8]) -> Reading
             if session_sizes::sizes_hold(sizes) {
                 return session_walk::walk(file, sizes);
             }
-            return Reading::Refused(Refusal::Limits);
+            return Reading::NotRead(Refusal::Limits);
         }
     }
-    Reading::Refused(Refusal::Record { byte: 0 })
+    Reading::NotRead(Refusal::Record { byte: 0 })
 }

@@ -5,23 +5,23 @@ use mathlib.Core.List.{List}
 use Prim.Native.Nat.{ℕ}
 use lib.Ieee.{Float}
 use lib.ListN.{length}
-use Rattle.session_file.specs.declared.Refusal.the-variants.{OutputLength}
+use Rattle.call.specs.declared.Refusal.the-variants.{OutputLength}
 use Rattle.session_file.specs.declared.Reading.{Reading}
-use Rattle.session_file.specs.declared.Reading.the-variants.{Session as SessionRead, Refused}
+use Rattle.session_file.specs.declared.Reading.the-variants.{SessionRead, NotRead}
 use Rattle.session_file.specs.Reader.{Loaded, readOf, cachesFit, sessionAt, loaded, loadedOf, loadOf}
 use Rattle.session_file.proofs.Walks.{read→standing}
 use Rattle.session_interface.specs.Numbers.{ReadingHolds}
 
 pub read→holds : (file : List ℕ) (r : Reading) → r ≡ readOf file → ReadingHolds r
 read→holds file (SessionRead z n) e = let s = read→standing file z n (sym e) in (s .limits, s .most)
-read→holds file (Refused x) e = tt
+read→holds file (NotRead x) e = tt
 
 loaded→holds : (file : List ℕ) (keys values : List Float) (r : Reading) → r ≡ readOf file → ReadingHolds (loadedOf r file keys values .reading)
 unfolding loadedOf
-loaded→holds file keys values (Refused x) e = tt
+loaded→holds file keys values (NotRead x) e = tt
 loaded→holds file keys values (SessionRead z n) e = go (cachesFit z n (length keys) (length values))
   where
-    go : (b : Bool) → ReadingHolds (cond b (loaded (SessionRead z n) (sessionAt z file n .keys) (sessionAt z file n .values)) (loaded (Refused OutputLength) keys values) .reading)
+    go : (b : Bool) → ReadingHolds (cond b (loaded (SessionRead z n) (sessionAt z file n .keys) (sessionAt z file n .values)) (loaded (NotRead OutputLength) keys values) .reading)
     go true = read→holds file (SessionRead z n) e
     go false = tt
 

@@ -3,7 +3,7 @@ use mathlib.Core.Path.{_≡_}
 use mathlib.Core.Bool.{true}
 use Prim.Native.Nat.{_≤_}
 use Rattle.session_file.specs.declared.Reading.{Reading}
-use Rattle.session_file.specs.declared.Reading.the-variants.{Session as SessionRead, Refused}
+use Rattle.session_file.specs.declared.Reading.the-variants.{SessionRead, NotRead}
 use Rattle.session_file.specs.Sizes.{sizesHold, mostPositions}
 use Rattle.session_file.specs.Numbers.{ReadingReport, SavingReport}
 use Rattle.session_interface.specs.declared.ReadingNumbers.{ReadingNumbers}
@@ -12,7 +12,7 @@ use Rattle.session_interface.specs.declared.SavingNumbers.{SavingNumbers
 -- the sizes are within their limits, and so is the number of positions
 abbrev pub ReadingHolds : Reading → Type 0
 ReadingHolds (SessionRead z n) = (sizesHold z ≡ true) × (n ≤ mostPositions)
-ReadingHolds (Refused r) = Unit {0}
+ReadingHolds (NotRead r) = Unit {0}
 
 abbrev pub readingIn : ReadingNumbers → ReadingReport
 readingIn n = record {

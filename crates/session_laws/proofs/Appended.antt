@@ -13,7 +13,7 @@ use borrow.Author.Tests.{eqb-true}
 use Rattle.call.specs.Contents.{nothing, elementFault}
 use Rattle.records.specs.Records.{writtenAt}
 use Rattle.session_file.specs.declared.Sizes.{Sizes}
-use Rattle.session_file.specs.declared.Reading.the-variants.{Session as SessionRead}
+use Rattle.session_file.specs.declared.Reading.the-variants.{SessionRead}
 use Rattle.session_file.specs.declared.Saving.the-variants.{Saved}
 use Rattle.session_file.specs.Below.{leastFrom, joined}
 use Rattle.session_file.specs.Sizes.{rowsOf, positionAt}

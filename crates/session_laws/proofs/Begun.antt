@@ -9,7 +9,7 @@ use lib.Dec.{leb}
 use lib.ListN.{length, take, drop, length-append, length-drop}
 use borrow.Author.Tests.{leb-true}
 use Rattle.session_file.specs.declared.Sizes.{Sizes}
-use Rattle.session_file.specs.declared.Refusal.the-variants.{Limits, Room}
+use Rattle.call.specs.declared.Refusal.the-variants.{Limits, Room}
 use Rattle.session_file.specs.declared.Saving.the-variants.{Saved}
 use Rattle.session_file.specs.Sizes.{sizesHold, recordLength}
 use Rattle.session_file.specs.Form.{sizesBytes}

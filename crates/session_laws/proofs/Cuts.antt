@@ -15,10 +15,10 @@ use Rattle.call.specs.Contents.{elementFault}
 use Rattle.records.specs.Records.{headIs}
 use Rattle.records.proofs.Places.{u16At-take, f32At-take, headIs-take}
 use Rattle.session_file.specs.declared.Sizes.{Sizes}
-use Rattle.session_file.specs.declared.Refusal.the-variants.{Limits, Record}
+use Rattle.call.specs.declared.Refusal.the-variants.{Limits, Record}
 use Rattle.session_file.specs.declared.Next.{Next}
 use Rattle.session_file.specs.declared.Next.the-variants.{Ended, Cut, Whole}
-use Rattle.session_file.specs.declared.Reading.the-variants.{Session as SessionRead, Refused}
+use Rattle.session_file.specs.declared.Reading.the-variants.{SessionRead, NotRead}
 use Rattle.session_file.specs.Sizes.{sizesHold, mostPositions, rowsOf, payloadLength, recordLength, positionAt}
 use Rattle.session_file.specs.Reader.{nextOf, payloadFault, positionFault, atMost, onward, walkFrom, sizesAt, firstWhole, readOf}
 use Rattle.session_file.proofs.Below.{number-ext}
@@ -82,9 +82,9 @@ pub read-as : (z : Sizes) (file : List ℕ) (k : ℕ) → firstWhole file ≡ tr
     → readOf file ≡ SessionRead z k
 unfolding readOf
 read-as z file k f s h l stop each =
-    (λ i. cond (f i) (cond (sizesHold (sizesAt file)) (walkFrom (sizesAt file) file mostPositions 0) (Refused Limits)) (Refused (Record 0)))
-    ∙ (λ i. cond (sizesHold (sym s i)) (walkFrom (sym s i) file mostPositions 0) (Refused Limits))
-    ∙ (λ i. cond (h i) (walkFrom z file mostPositions 0) (Refused Limits))
+    (λ i. cond (f i) (cond (sizesHold (sizesAt file)) (walkFrom (sizesAt file) file mostPositions 0) (NotRead Limits)) (NotRead (Record 0)))
+    ∙ (λ i. cond (sizesHold (sym s i)) (walkFrom (sym s i) file mostPositions 0) (NotRead Limits))
+    ∙ (λ i. cond (h i) (walkFrom z file mostPositions 0) (NotRead Limits))
     ∙ walk-to z file k l stop each k 0 mostPositions (omega arith) (omega arith)
 
 -- ---- a cut of a file in which positions stand
@@ -180,6 +180,6 @@ cut→read file z n c s l h = standing→read (take c file) z k kept (stop (decL
         inr (cut-at z (take c file) k (omega arith) (headIs-take c (positionAt z k) (payloadLength z) 2 file (omega arith) ∙ s .heads k b) (omega (arith, whole-records z c l .1)), omega (arith, s .most))
 
 -- without the whole first record a file is refused at byte 0
-pub first-missing : (file : List ℕ) → length file < 14 → readOf file ≡ Refused (Record 0)
+pub first-missing : (file : List ℕ) → length file < 14 → readOf file ≡ NotRead (Record 0)
 unfolding readOf
 first-missing file l = rw (lt-leb 14 (length file) l)

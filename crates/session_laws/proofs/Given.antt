@@ -14,7 +14,7 @@ use Rattle.call.specs.Contents.{elementFault}
 use Rattle.records.specs.Numbers.{u32At, f32At}
 use Rattle.records.proofs.Places.{f32At-take}
 use Rattle.session_file.specs.declared.Sizes.{Sizes}
-use Rattle.session_file.specs.declared.Reading.the-variants.{Session as SessionRead}
+use Rattle.session_file.specs.declared.Reading.the-variants.{SessionRead}
 use Rattle.session_file.specs.Sizes.{rowsOf, pairLength, recordLength, positionAt}
 use Rattle.session_file.specs.Form.{Session, sessionOf}
 use Rattle.session_file.specs.Reader.{positionFault, payloadFault, readOf, cacheAt, sessionAt}

@@ -8,10 +8,10 @@ use lib.Ieee.{Float}
 use lib.ListN.{length, take}
 use Rattle.call.specs.Contents.{Found, nothing, at}
 use Rattle.session_file.specs.declared.Sizes.{Sizes}
-use Rattle.session_file.specs.declared.Refusal.{Refusal}
-use Rattle.session_file.specs.declared.Refusal.the-variants.{Limits, InputLength, OutputLength, Room}
+use Rattle.call.specs.declared.Refusal.{Refusal}
+use Rattle.call.specs.declared.Refusal.the-variants.{Limits, InputLength, OutputLength, Room}
 use Rattle.session_file.specs.declared.Reading.{Reading}
-use Rattle.session_file.specs.declared.Reading.the-variants.{Session as SessionRead, Refused}
+use Rattle.session_file.specs.declared.Reading.the-variants.{SessionRead, NotRead}
 use Rattle.session_file.specs.declared.Saving.the-variants.{Saved}
 use Rattle.session_file.specs.Below.{leastFrom, joined}
 use Rattle.session_file.specs.Sizes.{sizesHold, mostPositions, positionAt}
@@ -41,7 +41,7 @@ keeps-found nothing buffer n new =
 
 keeps-read : (r : Reading) (buffer : List ℕ) (count : ℕ) (keys values : List Float) → Keeps buffer (appendedTo r buffer count keys values)
 unfolding appendedTo
-keeps-read (Refused r) buffer count keys values = λ e. refl
+keeps-read (NotRead r) buffer count keys values = λ e. refl
 keeps-read (SessionRead z n) buffer count keys values =
     let new = sessionOf z count keys values in
     let found = leastFrom (rowsFault new) count 0 in
@@ -64,15 +64,15 @@ begin-keeps buffer z =
 
 abbrev isRead : Reading → Bool
 isRead (SessionRead z n) = true
-isRead (Refused r) = false
+isRead (NotRead r) = false
 
 keeps-loaded : (r : Reading) (file : List ℕ) (keys values : List Float) → isRead (loadedOf r file keys values .reading) ≡ false → loadedOf r file keys values ≡ loaded (loadedOf r file keys values .reading) keys values
 unfolding loadedOf
-keeps-loaded (Refused r) file keys values e = refl
+keeps-loaded (NotRead r) file keys values e = refl
 keeps-loaded (SessionRead z n) file keys values e = go (cachesFit z n (length keys) (length values)) e
   where
     l : Bool → Loaded
-    l b = cond b (loaded (SessionRead z n) (sessionAt z file n .keys) (sessionAt z file n .values)) (loaded (Refused OutputLength) keys values)
+    l b = cond b (loaded (SessionRead z n) (sessionAt z file n .keys) (sessionAt z file n .values)) (loaded (NotRead OutputLength) keys values)
 
     go : (b : Bool) → isRead (l b .reading) ≡ false → l b ≡ loaded (l b .reading) keys values
     go true e = absurd (true≢false e)

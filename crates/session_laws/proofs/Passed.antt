@@ -10,12 +10,12 @@ use borrow.Author.Tests.{leb-true}
 use Rattle.call.specs.Contents.{Found, nothing, at}
 use Rattle.records.specs.Records.{writtenAt}
 use Rattle.session_file.specs.declared.Sizes.{Sizes}
-use Rattle.session_file.specs.declared.Refusal.{Refusal}
-use Rattle.session_file.specs.declared.Refusal.the-variants.{Limits, InputLength, Element, Room}
+use Rattle.call.specs.declared.Refusal.{Refusal}
+use Rattle.call.specs.declared.Refusal.the-variants.{Limits, InputLength, Position, Room}
 use Rattle.session_file.specs.declared.Reading.{Reading}
-use Rattle.session_file.specs.declared.Reading.the-variants.{Session as SessionRead, Refused}
+use Rattle.session_file.specs.declared.Reading.the-variants.{SessionRead, NotRead}
 use Rattle.session_file.specs.declared.Saving.{Saving}
-use Rattle.session_file.specs.declared.Saving.the-variants.{Saved, Refused as NotSaved}
+use Rattle.session_file.specs.declared.Saving.the-variants.{Saved, NotSaved}
 use Rattle.session_file.specs.Below.{leastFrom, joined}
 use Rattle.session_file.specs.Sizes.{mostPositions, positionAt}
 use Rattle.session_file.specs.Form.{Session, sessionOf, positionBytes}
@@ -76,7 +76,7 @@ module _ (buffer : List ℕ) (used count : ℕ) (keys values : List Float) (m u 
 
     fault-by : (found : Found) → leastFrom (rowsFault new) count 0 ≡ found → writtenBehind found buffer n new ≡ written (Saved m u) left → Passed buffer used count keys values m u left
     unfolding writtenBehind
-    fault-by (at p) s e = not-saved (Element (n + p)) buffer m u left e
+    fault-by (at p) s e = not-saved (Position (n + p)) buffer m u left e
     fault-by nothing s e = room-by s (leb (positionAt z (n + count)) (length buffer)) refl e
 
   module _ (z : Sizes) (n : ℕ) (h : used ≤ length buffer) (r : readOf (take used buffer) ≡ SessionRead z n) where
@@ -95,7 +95,7 @@ module _ (buffer : List ℕ) (used count : ℕ) (keys values : List Float) (m u 
   read-by : used ≤ length buffer → (r : Reading) → readOf (take used buffer) ≡ r → appendedTo r buffer count keys values ≡ written (Saved m u) left → Passed buffer used count keys values m u left
   unfolding appendedTo
   read-by h (SessionRead z n) r e = most-by z n h r (leb (n + count) mostPositions) refl e
-  read-by h (Refused x) r e = not-saved x buffer m u left e
+  read-by h (NotRead x) r e = not-saved x buffer m u left e
 
   inside-by : (b : Bool) → leb used (length buffer) ≡ b → cond b (appendedTo (readOf (take used buffer)) buffer count keys values) (refusedWith Room buffer) ≡ written (Saved m u) left
       → Passed buffer used count keys values m u left

@@ -11,8 +11,8 @@ use lib.Ieee.{Float}
 use lib.ListN.{length, take, length-take}
 use borrow.Author.Tests.{le-ltb}
 use Rattle.session_file.specs.declared.Sizes.{Sizes}
-use Rattle.session_file.specs.declared.Refusal.the-variants.{Record}
-use Rattle.session_file.specs.declared.Reading.the-variants.{Session as SessionRead, Refused}
+use Rattle.call.specs.declared.Refusal.the-variants.{Record}
+use Rattle.session_file.specs.declared.Reading.the-variants.{SessionRead, NotRead}
 use Rattle.session_file.specs.Sizes.{mostPositions, rowsOf, recordLength, positionAt}
 use Rattle.session_file.specs.Form.{Session, sessionOf, sizesBytes, fileOf}
 use Rattle.session_file.specs.Reader.{readOf, sessionAt}
@@ -33,7 +33,7 @@ whole-most z n c l h = go (decLt n (wholeIn z c))
     go (yes a) = absurd (omega (arith, record-end z n (wholeIn z c) a, whole-records z c l .0))
     go (no a) = omega arith
 
-cut-missing : (file : List ℕ) (c : ℕ) → c < 14 → readOf (take c file) ≡ Refused (Record 0)
+cut-missing : (file : List ℕ) (c : ℕ) → c < 14 → readOf (take c file) ≡ NotRead (Record 0)
 cut-missing file c l = first-missing (take c file) (omega (arith, length-take c file))
 
 module _ (file : List ℕ) (z : Sizes) (n : ℕ) (s : Standing file z n) where

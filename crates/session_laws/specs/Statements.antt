@@ -6,8 +6,8 @@ use lib.Dec.{T}
 use lib.Ieee.{Float, nan, binary32, fits}
 use lib.ListN.{length, getD, take, drop}
 use Rattle.session_file.specs.declared.Sizes.{Sizes}
-use Rattle.session_file.specs.declared.Refusal.the-variants.{Record}
-use Rattle.session_file.specs.declared.Reading.the-variants.{Session as SessionRead, Refused}
+use Rattle.call.specs.declared.Refusal.the-variants.{Record}
+use Rattle.session_file.specs.declared.Reading.the-variants.{SessionRead, NotRead}
 use Rattle.session_file.specs.Sizes.{recordLength, positionAt}
 use Rattle.session_file.specs.Form.{Session, sessionOf, fileOf}
 use Rattle.session_file.specs.Reader.{readOf, sessionAt}
@@ -21,7 +21,7 @@ wholeIn z c = (c - 14) / recordLength z
 pub record ReadHolds (file : List ℕ) (z : Sizes) (n : ℕ) : Type 0 where
   pub within : Savable (sessionAt z file n)
   pub rewritten : ((k : ℕ) → getD file k 0 < 256) → fileOf (sessionAt z file n) ≡ take (positionAt z n) file
-  pub missing : (c : ℕ) → c < 14 → readOf (take c file) ≡ Refused (Record 0)
+  pub missing : (c : ℕ) → c < 14 → readOf (take c file) ≡ NotRead (Record 0)
   pub cut : (c : ℕ) → 14 ≤ c → c ≤ positionAt z n → readOf (take c file) ≡ SessionRead z (wholeIn z c)
   pub same : (c : ℕ) → 14 ≤ c → c ≤ positionAt z n → sessionAt z (take c file) (wholeIn z c) ≡ firstOf (sessionAt z file n) (wholeIn z c)
 
@@ -30,7 +30,7 @@ pub record SavedHolds (s : Session) : Type 0 where
   pub long : length (fileOf s) ≡ positionAt (s .sizes) (s .positions)
   pub reads : readOf (fileOf s) ≡ SessionRead (s .sizes) (s .positions)
   pub same : sessionAt (s .sizes) (fileOf s) (s .positions) ≡ s
-  pub missing : (c : ℕ) → c < 14 → readOf (take c (fileOf s)) ≡ Refused (Record 0)
+  pub missing : (c : ℕ) → c < 14 → readOf (take c (fileOf s)) ≡ NotRead (Record 0)
   pub cut : (c : ℕ) → 14 ≤ c → c ≤ length (fileOf s) → readOf (take c (fileOf s)) ≡ SessionRead (s .sizes) (wholeIn (s .sizes) c)
   pub first : (c : ℕ) → 14 ≤ c → c ≤ length (fileOf s) → sessionAt (s .sizes) (take c (fileOf s)) (wholeIn (s .sizes) c) ≡ firstOf s (wholeIn (s .sizes) c)
 

@@ -5,8 +5,8 @@ ghost use Prim.Native.Nat.{ℕ, _+_, _*_, _%_, _≤_, _<_};
 ghost use lib.ListN.{length};
 ghost use Rattle.session_file.specs.Sizes.{sizesHold, rowsOf, positionAt};
 ghost use Rattle.session_file.specs.Reader.{positionFault, cacheAt, loaded, loadOf};
+use call::Refusal;
 use session_file::Reading;
-use session_file::Refusal;
 use session_file::Sizes;
 
 // One cache of n whole positions without fault: rows of that size, which begin so many bytes into each pair of rows. The file is read in order.
@@ -40,14 +40,14 @@ pub fn load(file: &[u8], keys: &mut [f32], values: &mut [f32]) -> Reading
 {
     let reading = session_inspect::inspect(file);
     match reading {
-        Reading::Refused(refusal) => Reading::Refused(refusal),
-        Reading::Session { sizes, positions } => {
+        Reading::NotRead(refusal) => Reading::NotRead(refusal),
+        Reading::SessionRead { sizes, positions } => {
             if session_sizes::caches_fit(sizes, positions, keys.len(), values.len()) {
                 load_cache(file, sizes, positions, 0, sizes.size, keys);
                 load_cache(file, sizes, positions, sizes.size * 4, sizes.vsize, values);
-                return Reading::Session { sizes, positions };
+                return Reading::SessionRead { sizes, positions };
             }
-            Reading::Refused(Refusal::OutputLength)
+            Reading::NotRead(Refusal::OutputLength)
         }
     }
 }

@@ -10,33 +10,33 @@ use lib.ListN.{length}
 use Rattle.records.specs.Records.{headIs}
 use Rattle.session_file.specs.declared.Sizes.{Sizes}
 use Rattle.session_file.specs.declared.Reading.{Reading}
-use Rattle.session_file.specs.declared.Reading.the-variants.{Session as SessionRead, Refused}
-use Rattle.session_file.specs.declared.Refusal.{Refusal}
-use Rattle.session_file.specs.declared.Refusal.the-variants.{Limits, OutputLength, Record}
+use Rattle.session_file.specs.declared.Reading.the-variants.{SessionRead, NotRead}
+use Rattle.call.specs.declared.Refusal.{Refusal}
+use Rattle.call.specs.declared.Refusal.the-variants.{Limits, OutputLength, Record}
 use Rattle.session_file.specs.Sizes.{sizesHold, mostPositions, rowsOf}
 use Rattle.session_file.specs.Reader.{walkFrom, sizesAt, readOf, cacheAt, sessionAt, loaded, cachesFit, loadedOf, loadOf}
 
 module _ (file : List ℕ) where
   pub read-walk : 14 ≤ length file → headIs file 0 8 1 ≡ true → sizesHold (sizesAt file) ≡ true → readOf file ≡ walkFrom (sizesAt file) file mostPositions 0
   unfolding readOf
-  read-walk l h s = (λ j. cond (le-leb 14 (length file) l j && h j) (cond (s j) (walkFrom (sizesAt file) file mostPositions 0) (Refused Limits)) (Refused (Record 0)))
+  read-walk l h s = (λ j. cond (le-leb 14 (length file) l j && h j) (cond (s j) (walkFrom (sizesAt file) file mostPositions 0) (NotRead Limits)) (NotRead (Record 0)))
 
-  pub read-limits : 14 ≤ length file → headIs file 0 8 1 ≡ true → sizesHold (sizesAt file) ≡ false → readOf file ≡ Refused Limits
+  pub read-limits : 14 ≤ length file → headIs file 0 8 1 ≡ true → sizesHold (sizesAt file) ≡ false → readOf file ≡ NotRead Limits
   unfolding readOf
-  read-limits l h s = (λ j. cond (le-leb 14 (length file) l j && h j) (cond (s j) (walkFrom (sizesAt file) file mostPositions 0) (Refused Limits)) (Refused (Record 0)))
+  read-limits l h s = (λ j. cond (le-leb 14 (length file) l j && h j) (cond (s j) (walkFrom (sizesAt file) file mostPositions 0) (NotRead Limits)) (NotRead (Record 0)))
 
-  pub read-wrong : 14 ≤ length file → headIs file 0 8 1 ≡ false → readOf file ≡ Refused (Record 0)
+  pub read-wrong : 14 ≤ length file → headIs file 0 8 1 ≡ false → readOf file ≡ NotRead (Record 0)
   unfolding readOf
-  read-wrong l h = (λ j. cond (le-leb 14 (length file) l j && h j) (cond (sizesHold (sizesAt file)) (walkFrom (sizesAt file) file mostPositions 0) (Refused Limits)) (Refused (Record 0)))
+  read-wrong l h = (λ j. cond (le-leb 14 (length file) l j && h j) (cond (sizesHold (sizesAt file)) (walkFrom (sizesAt file) file mostPositions 0) (NotRead Limits)) (NotRead (Record 0)))
 
-  pub read-short : length file < 14 → readOf file ≡ Refused (Record 0)
+  pub read-short : length file < 14 → readOf file ≡ NotRead (Record 0)
   unfolding readOf
-  read-short l = (λ j. cond (lt-leb 14 (length file) l j && headIs file 0 8 1) (cond (sizesHold (sizesAt file)) (walkFrom (sizesAt file) file mostPositions 0) (Refused Limits)) (Refused (Record 0)))
+  read-short l = (λ j. cond (lt-leb 14 (length file) l j && headIs file 0 8 1) (cond (sizesHold (sizesAt file)) (walkFrom (sizesAt file) file mostPositions 0) (NotRead Limits)) (NotRead (Record 0)))
 
 -- ---- into lent caches
 
 module _ (file : List ℕ) (keys values : List Float) where
-  pub load-refused : (r : Refusal) → readOf file ≡ Refused r → loadOf file keys values ≡ loaded (Refused r) keys values
+  pub load-refused : (r : Refusal) → readOf file ≡ NotRead r → loadOf file keys values ≡ loaded (NotRead r) keys values
   unfolding loadOf loadedOf
   load-refused r e = ap (λ (x : Reading). loadedOf x file keys values) e
 
@@ -47,14 +47,14 @@ module _ (file : List ℕ) (keys values : List Float) where
     unfolding loadOf loadedOf sessionAt
     load-fits f k v a b =
         (λ j. loaded (SessionRead z n) (a j) (b j))
-        ∙ (λ j. cond (sym f j) (loaded (SessionRead z n) (cacheAt z file n 0 (z .size)) (cacheAt z file n (z .size * 4) (z .vsize))) (loaded (Refused OutputLength) keys values))
+        ∙ (λ j. cond (sym f j) (loaded (SessionRead z n) (cacheAt z file n 0 (z .size)) (cacheAt z file n (z .size * 4) (z .vsize))) (loaded (NotRead OutputLength) keys values))
         ∙ sym (ap (λ (x : Reading). loadedOf x file keys values) e)
 
-    pub load-other : cachesFit z n (length keys) (length values) ≡ false → loadOf file keys values ≡ loaded (Refused OutputLength) keys values
+    pub load-other : cachesFit z n (length keys) (length values) ≡ false → loadOf file keys values ≡ loaded (NotRead OutputLength) keys values
     unfolding loadOf loadedOf sessionAt
     load-other f =
         ap (λ (x : Reading). loadedOf x file keys values) e
-        ∙ (λ j. cond (f j) (loaded (SessionRead z n) (cacheAt z file n 0 (z .size)) (cacheAt z file n (z .size * 4) (z .vsize))) (loaded (Refused OutputLength) keys values))
+        ∙ (λ j. cond (f j) (loaded (SessionRead z n) (cacheAt z file n 0 (z .size)) (cacheAt z file n (z .size * 4) (z .vsize))) (loaded (NotRead OutputLength) keys values))
 
 -- ---- the lengths that fit
 

@@ -2,27 +2,17 @@
 ghost use mathlib.Core.Path.{_≡_};
 ghost use mathlib.Core.Bool.{true};
 ghost use Prim.Native.Nat.{_≤_};
-ghost use Rattle.call.specs.Limits.{within};
 ghost use Rattle.session_file.specs.Sizes.{sizesHold, payloadLength, positionAt};
 ghost use Rattle.session_file.specs.Reader.{cachesFit};
 use session_file::Sizes;
 
-fn within(least: usize, most: usize, x: usize) -> bool
-    ensures { λ r. ⌜ r ≡ within least most x ⌝ }
-{
-    if least <= x {
-        return x <= most;
-    }
-    false
-}
-
 pub fn sizes_hold(sizes: Sizes) -> bool
     ensures { λ r. ⌜ r ≡ sizesHold sizes ⌝ }
 {
-    if within(1, 8, sizes.batches) {
-        if within(1, 32, sizes.kvheads) {
-            if within(1, 256, sizes.size) {
-                return within(1, 256, sizes.vsize);
+    if shapes_tests::is_within(1, call::MOST_BATCHES, sizes.batches) {
+        if shapes_tests::is_within(1, call::MOST_HEADS, sizes.kvheads) {
+            if shapes_tests::is_within(1, call::MOST_SIZE, sizes.size) {
+                return shapes_tests::is_within(1, call::MOST_SIZE, sizes.vsize);
             }
         }
     }

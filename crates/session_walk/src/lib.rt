@@ -4,9 +4,9 @@ ghost use mathlib.Core.Bool.{true};
 ghost use Prim.Native.Nat.{_≤_};
 ghost use Rattle.session_file.specs.Sizes.{sizesHold};
 ghost use Rattle.session_file.specs.Reader.{nextOf, walkFrom};
+use call::Refusal;
 use session_file::Next;
 use session_file::Reading;
-use session_file::Refusal;
 use session_file::Sizes;
 
 // What stands where the record of position p would begin.
@@ -39,22 +39,22 @@ pub fn walk(file: &[u8], sizes: Sizes) -> Reading
         match next(file, sizes, p) {
             Next::Whole => {
                 if session_faults::position_fault(file, sizes, p) {
-                    return Reading::Refused(Refusal::Element { position: p });
+                    return Reading::NotRead(Refusal::Position { position: p });
                 }
                 p += 1;
             }
             Next::Wrong => {
                 let byte = session_sizes::position_at(sizes, p);
-                return Reading::Refused(Refusal::Record { byte });
+                return Reading::NotRead(Refusal::Record { byte });
             }
             Next::Ended => {
-                return Reading::Session {
+                return Reading::SessionRead {
                     sizes,
                     positions: p,
                 };
             }
             Next::Cut => {
-                return Reading::Session {
+                return Reading::SessionRead {
                     sizes,
                     positions: p,
                 };
@@ -70,15 +70,15 @@ fn at_most(file: &[u8], sizes: Sizes) -> Reading
     ensures { λ r. ⌜ r ≡ walkFrom sizes (now (file .entry)) 0 2048 ⌝ }
 {
     match next(file, sizes, 2048) {
-        Next::Ended => Reading::Session {
+        Next::Ended => Reading::SessionRead {
             sizes,
             positions: 2048,
         },
         Next::Wrong => {
             let byte = session_sizes::position_at(sizes, 2048);
-            Reading::Refused(Refusal::Record { byte })
+            Reading::NotRead(Refusal::Record { byte })
         }
-        Next::Cut => Reading::Refused(Refusal::Limits),
-        Next::Whole => Reading::Refused(Refusal::Limits),
+        Next::Cut => Reading::NotRead(Refusal::Limits),
+        Next::Whole => Reading::NotRead(Refusal::Limits),
     }
 }

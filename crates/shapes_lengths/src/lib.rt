@@ -6,8 +6,8 @@ ghost use Rattle.call.specs.Limits.{limitsHold, maskShapeHolds};
 ghost use Rattle.call.specs.Lengths.{inputsFit, outputsFit};
 ghost use Rattle.call.specs.Refusals.{lengthsVerdict};
 ghost use Rattle.shapes.specs.Lent.{WrittenLengths};
-use call::Answer;
 use call::Call;
+use call::Refusal;
 use call::Verdict;
 
 fn inputs_fit(
@@ -113,10 +113,10 @@ pub fn lengths_verdict(
         pastvalue,
         live,
     ) {
-        return Verdict::Refused(Answer::InputLength);
+        return Verdict::Refused(Refusal::InputLength);
     }
     if !outputs_fit(call, output, presentkey, presentvalue, scores, work) {
-        return Verdict::Refused(Answer::OutputLength);
+        return Verdict::Refused(Refusal::OutputLength);
     }
     Verdict::Accepted
 }

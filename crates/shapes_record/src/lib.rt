@@ -1,40 +1,39 @@
 // Refusals 1 to 4: the record.
 ghost use mathlib.Core.Path.{_≡_};
 ghost use Prim.Native.Nat.{_≤_};
-ghost use Rattle.call.specs.Limits.{limitsHold, maskShapeHolds};
 ghost use Rattle.call.specs.Limits.{totalOf, limitsHold, groupsHold, settingsHold, dimensionsHold, maskShapeHolds};
 ghost use Rattle.call.specs.Refusals.{recordVerdict};
-use call::Answer;
 use call::Call;
 use call::MaskKind;
+use call::Refusal;
 use call::Verdict;
 
 // T is at most 2,048 where P is at most 2,048 - Sk.
 fn limits_hold(call: Call) -> bool
     ensures { λ r. ⌜ r ≡ limitsHold call ⌝ }
 {
-    if !shapes_tests::is_within(1, 8, call.batches) {
+    if !shapes_tests::is_within(1, call::MOST_BATCHES, call.batches) {
         return false;
     }
-    if !shapes_tests::is_within(1, 32, call.qheads) {
+    if !shapes_tests::is_within(1, call::MOST_HEADS, call.qheads) {
         return false;
     }
-    if !shapes_tests::is_within(1, 32, call.kvheads) {
+    if !shapes_tests::is_within(1, call::MOST_HEADS, call.kvheads) {
         return false;
     }
-    if !shapes_tests::is_within(1, 2048, call.qlen) {
+    if !shapes_tests::is_within(1, call::MOST_LENGTH, call.qlen) {
         return false;
     }
-    if !shapes_tests::is_within(1, 2048, call.klen) {
+    if !shapes_tests::is_within(1, call::MOST_LENGTH, call.klen) {
         return false;
     }
-    if 2048 - call.klen < call.past {
+    if call::MOST_LENGTH - call.klen < call.past {
         return false;
     }
-    if !shapes_tests::is_within(1, 256, call.size) {
+    if !shapes_tests::is_within(1, call::MOST_SIZE, call.size) {
         return false;
     }
-    if !shapes_tests::is_within(1, 256, call.vsize) {
+    if !shapes_tests::is_within(1, call::MOST_SIZE, call.vsize) {
         return false;
     }
     let form = call.form;
@@ -48,27 +47,27 @@ fn groups_hold(call: Call) -> bool
     requires { ⌜ 1 ≤ call .kvheads ⌝ }
     ensures { λ r. ⌜ r ≡ groupsHold call ⌝ }
 {
-    call.qheads % call.kvheads == 0
+    shapes_settings::groups_allowed(call.qheads, call.kvheads)
 }
 
 fn settings_hold(call: Call) -> bool
     ensures { λ r. ⌜ r ≡ settingsHold call ⌝ }
 {
-    if !shapes_tests::is_either(3, 4, call.rank) {
+    if !shapes_settings::rank_allowed(call.rank) {
         return false;
     }
-    if 1 < call.causal {
+    if !shapes_settings::causal_allowed(call.causal) {
         return false;
     }
     let mode = call.mode;
-    if !shapes_tests::mode_allowed(mode) {
+    if !shapes_settings::mode_allowed(mode) {
         return false;
     }
     let scale = call.scale;
-    if !shapes_tests::scale_allowed(scale) {
+    if !shapes_settings::scale_allowed(scale) {
         return false;
     }
-    shapes_tests::cap_allowed(call.softcap)
+    shapes_settings::cap_allowed(call.softcap)
 }
 
 fn dimensions_hold(call: Call) -> bool
@@ -95,7 +94,7 @@ fn mask_shape_holds(call: Call) -> bool
     match mask {
         MaskKind::NoMask => true,
         MaskKind::Boolean => dimensions_hold(call),
-        MaskKind::Float => dimensions_hold(call),
+        MaskKind::FloatMask => dimensions_hold(call),
     }
 }
 
@@ -103,16 +102,16 @@ pub fn record_verdict(call: Call) -> Verdict
     ensures { λ r. ⌜ r ≡ recordVerdict call ⌝ }
 {
     if !limits_hold(call) {
-        return Verdict::Refused(Answer::Limits);
+        return Verdict::Refused(Refusal::Limits);
     }
     if !groups_hold(call) {
-        return Verdict::Refused(Answer::HeadGroups);
+        return Verdict::Refused(Refusal::HeadGroups);
     }
     if !settings_hold(call) {
-        return Verdict::Refused(Answer::Settings);
+        return Verdict::Refused(Refusal::Settings);
     }
     if !mask_shape_holds(call) {
-        return Verdict::Refused(Answer::MaskShape);
+        return Verdict::Refused(Refusal::MaskShape);
     }
     Verdict::Accepted
 }

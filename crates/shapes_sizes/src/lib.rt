@@ -56,7 +56,7 @@ pub fn boolmask_length(call: Call) -> usize
     match mask {
         MaskKind::NoMask => 0,
         MaskKind::Boolean => product(call.maskb, call.maskh, call.maskq, call.maskk),
-        MaskKind::Float => 0,
+        MaskKind::FloatMask => 0,
     }
 }
 
@@ -69,7 +69,7 @@ pub fn floatmask_length(call: Call) -> usize
     match mask {
         MaskKind::NoMask => 0,
         MaskKind::Boolean => 0,
-        MaskKind::Float => product(call.maskb, call.maskh, call.maskq, call.maskk),
+        MaskKind::FloatMask => product(call.maskb, call.maskh, call.maskq, call.maskk),
     }
 }
 

@@ -4,6 +4,7 @@ ghost use Rattle.attention.specs.Outcomes.{outcomeOf};
 ghost use Rattle.attention.specs.Entries.{stepInputs, stepOutputs, stepOf};
 use call::Answer;
 use call::Call;
+use call::Refusal;
 
 // A step. A record of the profile is answered as the general entry answers it without masks, live counts and scores; any other is refusal 10, and leaves every tensor as it came in.
 pub fn step<'a>(
@@ -21,7 +22,7 @@ pub fn step<'a>(
     ensures { λ r. ⌜ outcomeOf r (stepOutputs (now (output .exit)) (now (presentkey .exit)) (now (presentvalue .exit)) (now (work .exit))) ≡ stepOf call (stepInputs (now (query .entry)) (now (key .entry)) (now (value .entry)) (now (pastkey .entry)) (now (pastvalue .entry))) (stepOutputs (now (output .entry)) (now (presentkey .entry)) (now (presentvalue .entry)) (now (work .entry))) ⌝ }
 {
     if !step_profile::profile_holds(call) {
-        return Answer::Profile;
+        return Answer::NotDone(Refusal::Profile);
     }
     let bytes: [u8; 0] = [0; 0];
     let cells: [f32; 0] = [0.0; 0];

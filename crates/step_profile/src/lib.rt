@@ -22,7 +22,7 @@ fn is_unmasked(mask: MaskKind) -> bool
     match mask {
         MaskKind::NoMask => true,
         MaskKind::Boolean => false,
-        MaskKind::Float => false,
+        MaskKind::FloatMask => false,
     }
 }
 

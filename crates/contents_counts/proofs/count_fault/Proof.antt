@@ -1,4 +1,4 @@
--- `refusals::cells::count_fault` meets its contract, by the count's sign. Assumes nothing.
+-- `contents_counts::count_fault` meets its contract, by the count's sign. Assumes nothing.
 use mir.Facts.{toZ-ofZ}
 use Rattle.contents.proofs.Counts.{tested, fault-below-zero, fault-above}
 use borrow.Author.Needs.{needs}

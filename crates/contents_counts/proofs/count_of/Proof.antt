@@ -1,4 +1,4 @@
--- `refusals::cells::count_of` meets its contract, by the count's sign. Assumes nothing.
+-- `contents_counts::count_of` meets its contract, by the count's sign. Assumes nothing.
 use mir.Facts.{toZ-ofZ}
 use Rattle.contents.proofs.Counts.{tested, none-below-zero, count-fits, count-is}
 use Rattle.contents_counts.proofs.count_of.Statement.{statement}

@@ -1,4 +1,4 @@
--- `refusals::live_count` meets its contract, form by form. Assumes nothing.
+-- `contents_counts::live_count` meets its contract, form by form. Assumes nothing.
 use mathlib.Core.Path.{_≡_, ap, _∙_}
 use native.Mathlib.Omega.{arith}
 use lib.IntN.{pos}

@@ -1,4 +1,4 @@
--- `refusals::cells::live_counts` meets its contract. The loop's invariant: no live count before i is at fault. Assumes nothing.
+-- `contents_counts::live_counts` meets its contract. The loop's invariant: no live count before i is at fault. Assumes nothing.
 use mathlib.Core.Path.{_≡_, sym, ap, _∙_}
 use mathlib.Core.Bool.{false}
 use Prim.Native.Nat.{ℕ, _≤_, _<_, _-_}

@@ -1,4 +1,4 @@
--- `refusals::elements::block_faults` meets its contract. The loop's invariant: the faults among the first i elements are counted. Assumes nothing.
+-- `contents_elements::block_faults` meets its contract. The loop's invariant: the faults among the first i elements are counted. Assumes nothing.
 use mathlib.Core.Path.{_≡_, refl, ap, _∙_}
 use Prim.Native.Nat.{_+_, _≤_, _-_}
 use native.Mathlib.Omega.{arith}

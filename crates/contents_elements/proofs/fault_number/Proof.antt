@@ -1,4 +1,4 @@
--- `refusals::elements::fault_number` meets its contract: the bounds are the definition's. Assumes nothing.
+-- `contents_elements::fault_number` meets its contract: the bounds are the definition's. Assumes nothing.
 use lib.Ieee.{ofBits, neg}
 use Rattle.call.specs.Contents.{elementFault}
 use Rattle.contents_elements.proofs.fault_number.Statement.{statement}

@@ -1,4 +1,4 @@
--- `refusals::elements::first_fault` meets its contract. The loop's invariant: no element before i is at fault. Assumes nothing.
+-- `contents_elements::first_fault` meets its contract. The loop's invariant: no element before i is at fault. Assumes nothing.
 use mathlib.Core.Path.{_≡_, sym, _∙_}
 use mathlib.Core.Bool.{false}
 use Prim.Native.Nat.{ℕ, _≤_, _<_, _-_}

@@ -1,4 +1,4 @@
--- `refusals::elements::first_counted_fault` meets its contract, rank by rank. Assumes nothing.
+-- `contents_incoming::first_counted_fault` meets its contract, rank by rank. Assumes nothing.
 use mathlib.Core.Path.{sym, ap, _∙_}
 use native.Mathlib.Nat.{mul-pos, mul-le-mul}
 use native.Mathlib.Omega.{arith}

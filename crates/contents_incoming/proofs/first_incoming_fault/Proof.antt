@@ -1,4 +1,4 @@
--- `refusals::elements::first_incoming_fault` meets its contract, form by form. Assumes nothing.
+-- `contents_incoming::first_incoming_fault` meets its contract, form by form. Assumes nothing.
 use mathlib.Core.Path.{sym, ap, _∙_}
 use lib.ListN.{length}
 use Rattle.call.specs.Contents.{Found}

@@ -1,4 +1,4 @@
--- `refusals::elements::first_live_fault` meets its contract. The loop's invariant: before the group nothing is both looked at and at fault. Assumes nothing.
+-- `contents_incoming::first_live_fault` meets its contract. The loop's invariant: before the group nothing is both looked at and at fault. Assumes nothing.
 use mathlib.Core.Path.{_≡_, sym, ap, _∙_, subst}
 use mathlib.Core.Bool.{false, _&&_}
 use mathlib.Core.List.{List}

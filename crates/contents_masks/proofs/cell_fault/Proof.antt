@@ -1,4 +1,4 @@
--- `refusals::cells::cell_fault` meets its contract: of all floats a NaN and plus infinity are not below plus infinity. Assumes nothing.
+-- `contents_masks::cell_fault` meets its contract: of all floats a NaN and plus infinity are not below plus infinity. Assumes nothing.
 use mathlib.Core.Path.{_≡_, refl}
 use mathlib.Core.Bool.{true, false, not}
 use lib.Ieee.{Float, nan, inf, fin, lt, ofBits, nanBits}

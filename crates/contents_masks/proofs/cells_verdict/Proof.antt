@@ -1,6 +1,7 @@
--- `refusals::cells::cells_verdict` meets its contract: the first search that finds a fault gives the answer. Assumes nothing.
+-- `contents_masks::cells_verdict` meets its contract: the first search that finds a fault gives the answer. Assumes nothing.
 use mathlib.Core.Path.{sym, _∙_}
 use Rattle.call.specs.Refusals.{cellsVerdict}
+use Rattle.call.proofs.FirstLink.{then-accepted}
 use borrow.Author.Needs.{needs}
 use Rattle.contents_masks.proofs.cells_verdict.Statement.{statement}
 use Rattle.contents_masks.proofs.cells_verdict.Tie as tie
@@ -44,7 +45,7 @@ unfolding cellsVerdict
 returns-3 c =
     let b = c .before in
     let a = b .before .before .before in
-    c .mask-cells .ensures ∙ rw (sym (a .before .before .live-counts .ensures) ∙ a .enum-told .given .1, sym (b .before .before .mask-bytes .ensures) ∙ b .enum-told2 .given .1)
+    c .mask-cells .ensures ∙ rw (sym (a .before .before .live-counts .ensures) ∙ a .enum-told .given .1, sym (b .before .before .mask-bytes .ensures) ∙ b .enum-told2 .given .1, then-accepted)
 
 pub cells-verdict-spec : {M : Type 1} → statement M
 cells-verdict-spec =

@@ -1,4 +1,4 @@
--- `refusals::cells::mask_bytes` meets its contract. The loop's invariant: no byte before i is at fault. Assumes nothing.
+-- `contents_masks::mask_bytes` meets its contract. The loop's invariant: no byte before i is at fault. Assumes nothing.
 use mathlib.Core.Path.{_≡_}
 use mathlib.Core.Bool.{false}
 use Prim.Native.Nat.{ℕ, _≤_, _<_, _-_}

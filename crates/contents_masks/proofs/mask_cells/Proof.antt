@@ -1,4 +1,4 @@
--- `refusals::cells::mask_cells` meets its contract. The loop's invariant: no cell before i is at fault. Assumes nothing.
+-- `contents_masks::mask_cells` meets its contract. The loop's invariant: no cell before i is at fault. Assumes nothing.
 use mathlib.Core.Path.{_≡_, sym, _∙_}
 use mathlib.Core.Bool.{false}
 use Prim.Native.Nat.{ℕ, _≤_, _<_, _-_}

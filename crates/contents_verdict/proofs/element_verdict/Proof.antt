@@ -1,4 +1,4 @@
--- `refusals::elements::element_verdict` meets its contract. Assumes nothing.
+-- `contents_verdict::element_verdict` meets its contract. Assumes nothing.
 use borrow.Author.Tests.{lt-ltb, le-ltb}
 use Rattle.contents_verdict.proofs.element_verdict.Statement.{statement}
 use Rattle.contents_verdict.proofs.element_verdict.Tie as tie

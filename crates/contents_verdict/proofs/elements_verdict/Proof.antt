@@ -1,7 +1,8 @@
--- `refusals::elements::elements_verdict` meets its contract: the first search that finds a fault gives the answer. Assumes nothing.
+-- `contents_verdict::elements_verdict` meets its contract: the first search that finds a fault gives the answer. Assumes nothing.
 use mathlib.Core.Path.{sym, _∙_}
 use Rattle.call.specs.Refusals.{elementsVerdict}
 use Rattle.call.proofs.Facts.{limits→facts}
+use Rattle.call.proofs.FirstLink.{then-accepted}
 use borrow.Author.Needs.{needs}
 use Rattle.contents_verdict.proofs.elements_verdict.Statement.{statement}
 use Rattle.contents_verdict.proofs.elements_verdict.Tie as tie
@@ -104,6 +105,7 @@ returns-5 c =
       sym (b .before .before .whole-tensor2 .ensures) ∙ b .enum-told2 .given .1,
       sym (d .before .before .incoming-tensor .ensures) ∙ d .enum-told3 .given .1,
       sym (e .before .before .whole-tensor3 .ensures) ∙ e .enum-told4 .given .1,
+      then-accepted,
     )
 
 pub elements-verdict-spec : {M : Type 1} → statement M

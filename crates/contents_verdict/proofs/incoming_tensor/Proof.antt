@@ -1,6 +1,6 @@
--- `refusals::elements::incoming_tensor` meets its contract. Assumes nothing.
+-- `contents_verdict::incoming_tensor` meets its contract. Assumes nothing.
 use mathlib.Core.Path.{ap, _∙_}
-use Rattle.call.specs.declared.Answer.the-variants.{Element}
+use Rattle.call.specs.declared.Refusal.the-variants.{Element}
 use Rattle.call.specs.Contents.{Found, incomingFault}
 use Rattle.call.specs.Refusals.{whereFound}
 use Rattle.call.proofs.Clear.{incoming→inside}

@@ -1,6 +1,6 @@
--- `refusals::elements::whole_tensor` meets its contract. Assumes nothing.
+-- `contents_verdict::whole_tensor` meets its contract. Assumes nothing.
 use mathlib.Core.Path.{ap, _∙_}
-use Rattle.call.specs.declared.Answer.the-variants.{Element}
+use Rattle.call.specs.declared.Refusal.the-variants.{Element}
 use Rattle.call.specs.Contents.{Found, tensorFault}
 use Rattle.call.specs.Refusals.{whereFound}
 use Rattle.call.proofs.Clear.{tensor→first}

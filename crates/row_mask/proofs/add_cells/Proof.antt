@@ -8,7 +8,7 @@ use lib.ListN.{length, set}
 use lib.Ieee.{Float, nan}
 use Rattle.tensor_laws.proofs.InPlace.{indexedTo, indexed-next, length-indexedTo, indexed-all}
 use Rattle.softmax.specs.Lists.{elementOf}
-use Rattle.call.specs.declared.MaskKind.the-variants.{Float as FloatMask}
+use Rattle.call.specs.declared.MaskKind.the-variants.{FloatMask}
 use Rattle.row_steps.specs.Steps.{maskedBy, maskedRowBy}
 use Rattle.row_mask.proofs.add_cells.Statement.{statement}
 use Rattle.row_mask.proofs.add_cells.Tie as tie

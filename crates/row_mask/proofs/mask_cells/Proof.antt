@@ -3,7 +3,7 @@ use mathlib.Core.Path.{sym, _∙_}
 use mathlib.Core.List.{[]}
 use native.Mathlib.Omega.{arith}
 use borrow.Author.Needs.{needs}
-use Rattle.call.specs.declared.MaskKind.the-variants.{Float as FloatMask}
+use Rattle.call.specs.declared.MaskKind.the-variants.{FloatMask}
 use Rattle.row_steps.specs.Steps.{maskedRowBy}
 use Rattle.tensor_laws.proofs.Tails.{length-part}
 use Rattle.row_steps.proofs.Masked.{masked-repeated, masked-part}

@@ -6,7 +6,7 @@ use native.Mathlib.Nat.{mul-le-mul}
 use native.Mathlib.Omega.{arith}
 use borrow.Author.Needs.{needs}
 use Rattle.call.specs.declared.MaskKind.{MaskKind}
-use Rattle.call.specs.declared.MaskKind.the-variants.{Boolean, Float as FloatMask}
+use Rattle.call.specs.declared.MaskKind.the-variants.{Boolean, FloatMask}
 use Rattle.call.proofs.Facts.{limits→facts}
 use Rattle.call.proofs.MaskBounds.{mask-bounds}
 use Rattle.row_steps.specs.Steps.{maskStart}

@@ -3,7 +3,7 @@ use mathlib.Core.Path.{_≡_, sym, _∙_}
 use borrow.Author.Needs.{needs}
 use lib.ListN.{take}
 use lib.Seq.{length-take-le}
-use Rattle.session_file.specs.declared.Reading.the-variants.{Session as SessionRead}
+use Rattle.session_file.specs.declared.Reading.the-variants.{SessionRead}
 use Rattle.session_file.specs.Reader.{readOf}
 use Rattle.session_file.specs.Writer.{written}
 use Rattle.session_file.proofs.Walks.{read→standing}

@@ -1,8 +1,8 @@
 -- `session_walk::at_most` meets its contract: a match on what stands there, as in the definition. Assumes nothing.
 use mathlib.Core.Path.{sym, ap, _∙_}
 use borrow.Author.Needs.{needs}
-use Rattle.session_file.specs.declared.Reading.the-variants.{Refused}
-use Rattle.session_file.specs.declared.Refusal.the-variants.{Record}
+use Rattle.session_file.specs.declared.Reading.the-variants.{NotRead}
+use Rattle.call.specs.declared.Refusal.the-variants.{Record}
 use Rattle.session_file.specs.Reader.{atMost}
 use Rattle.session_reader.proofs.Nexts.{walk-end}
 use Rattle.session_walk.proofs.at_most.Statement.{statement}
@@ -36,7 +36,7 @@ returns-2 : tie.Need-returns-2
 returns-2 c =
     let n = c .before .before .before in
     let s = n .before .before .args in
-    (λ j. Refused (Record (c .position-at .ensures j)))
+    (λ j. NotRead (Record (c .position-at .ensures j)))
     ∙ ap (atMost (s .sizes) 2048) (sym (c .before .enum-told2 .given .1) ∙ n .next .ensures)
     ∙ sym (walk-end (s .sizes) (s .file .now) 2048)
 

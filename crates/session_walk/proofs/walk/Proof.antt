@@ -6,8 +6,8 @@ use native.Mathlib.Omega.{arith}
 use borrow.Author.Needs.{needs}
 use Rattle.session_file.specs.declared.Next.{Next}
 use Rattle.session_file.specs.declared.Next.the-variants.{Ended, Wrong, Cut, Whole}
-use Rattle.session_file.specs.declared.Reading.the-variants.{Refused}
-use Rattle.session_file.specs.declared.Refusal.the-variants.{Record}
+use Rattle.session_file.specs.declared.Reading.the-variants.{NotRead}
+use Rattle.call.specs.declared.Refusal.the-variants.{Record}
 use Rattle.session_file.specs.Reader.{positionFault, onward, walkFrom}
 use Rattle.session_file.proofs.Walks.{whole→record}
 use Rattle.session_reader.proofs.Nexts.{walk-on}
@@ -78,7 +78,7 @@ position-at-requires c κs = search needs
 
 returns-2 : tie.Need-returns-2 Inv-loop μ-loop
 returns-2 c =
-    (λ j. Refused (Record (c .position-at .ensures j)))
+    (λ j. NotRead (Record (c .position-at .ensures j)))
     ∙ by-next (c .before .before .before) Wrong _ (c .before .enum-told2 .given .1) refl
 
 enum-told-3 : tie.Need-enum-told-3 Inv-loop μ-loop

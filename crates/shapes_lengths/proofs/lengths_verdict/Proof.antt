@@ -1,4 +1,4 @@
--- `refusals::lengths::lengths_verdict` meets its contract: the first test that fails is the answer. Assumes nothing.
+-- `shapes_lengths::lengths_verdict` meets its contract: the first test that fails is the answer. Assumes nothing.
 use Rattle.call.specs.Refusals.{lengthsVerdict}
 use Rattle.shapes.proofs.Tests.{fails, passes}
 use borrow.Author.Needs.{needs}

@@ -1,4 +1,4 @@
--- `refusals::lengths::outputs_fit` meets its contract: each test that fails is one of the lengths, and where all pass every tensor that is written has its length. Assumes nothing.
+-- `shapes_lengths::outputs_fit` meets its contract: each test that fails is one of the lengths, and where all pass every tensor that is written has its length. Assumes nothing.
 use mathlib.Core.Path.{sym, _∙_}
 use native.Mathlib.Omega.{arith}
 use Rattle.call.proofs.Facts.{limits→facts, outputs→lengths, lengths→outputs}

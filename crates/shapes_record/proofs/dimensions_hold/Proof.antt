@@ -1,4 +1,4 @@
--- `refusals::record::dimensions_hold` meets its contract. Assumes nothing.
+-- `shapes_record::dimensions_hold` meets its contract. Assumes nothing.
 use mathlib.Core.Path.{_∙_}
 use Rattle.shapes.proofs.Tests.{fails, passes}
 use borrow.Author.Needs.{needs}

@@ -1,16 +1,15 @@
--- `refusals::record::groups_hold` meets its contract. Assumes nothing.
-use mathlib.Core.Path.{refl}
+-- `shapes_record::groups_hold` meets its contract. Assumes nothing.
 use borrow.Author.Needs.{needs}
 use Rattle.call.specs.Limits.{groupsHold}
 use Rattle.shapes_record.proofs.groups_hold.Statement.{statement}
 use Rattle.shapes_record.proofs.groups_hold.Tie as tie
 
-rem-result : tie.Need-rem-result
-rem-result c = search needs
+groups-allowed-requires : tie.Need-groups-allowed-requires
+groups-allowed-requires c κs = search needs
 
 returns : tie.Need-returns
 unfolding groupsHold
-returns c = refl
+returns c = c .groups-allowed .ensures
 
 pub groups-hold-spec : {M : Type 1} → statement M
-groups-hold-spec = tie.close (tie.spec rem-result returns)
+groups-hold-spec = tie.close (tie.spec groups-allowed-requires returns)

@@ -1,4 +1,4 @@
--- `refusals::record::limits_hold` meets its contract: each test that fails is one of the limits, and where all pass the limits hold. Assumes nothing.
+-- `shapes_record::limits_hold` meets its contract: each test that fails is one of the limits, and where all pass the limits hold. Assumes nothing.
 use mathlib.Core.Path.{sym, _∙_}
 use mathlib.Core.Bool.{true≢false}
 use Prim.Native.Nat.{_≤_}

@@ -1,4 +1,4 @@
--- `refusals::record::mask_shape_holds` meets its contract, kind by kind. Assumes nothing.
+-- `shapes_record::mask_shape_holds` meets its contract, kind by kind. Assumes nothing.
 use mathlib.Core.Path.{_∙_}
 use Rattle.call.specs.Limits.{maskShapeHolds}
 use borrow.Author.Needs.{needs}

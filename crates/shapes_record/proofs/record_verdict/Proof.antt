@@ -1,4 +1,4 @@
--- `refusals::record::record_verdict` meets its contract: the first test that fails is the answer. Assumes nothing.
+-- `shapes_record::record_verdict` meets its contract: the first test that fails is the answer. Assumes nothing.
 use Rattle.call.specs.Refusals.{recordVerdict}
 use Rattle.call.proofs.Facts.{limits→facts}
 use Rattle.shapes.proofs.Tests.{fails, passes}

@@ -1,24 +1,26 @@
--- `refusals::record::settings_hold` meets its contract. Assumes nothing.
+-- `shapes_record::settings_hold` meets its contract. Assumes nothing.
 use mathlib.Core.Path.{_∙_}
-use borrow.Author.Tests.{le-leb, lt-leb}
 use Rattle.call.specs.Limits.{settingsHold}
 use Rattle.shapes.proofs.Tests.{fails, passes}
 use borrow.Author.Needs.{needs}
 use Rattle.shapes_record.proofs.settings_hold.Statement.{statement}
 use Rattle.shapes_record.proofs.settings_hold.Tie as tie
 
-is-either-requires : tie.Need-is-either-requires
-is-either-requires c κs = search needs
+rank-allowed-requires : tie.Need-rank-allowed-requires
+rank-allowed-requires c κs = search needs
 
 returns : tie.Need-returns
 unfolding settingsHold
-returns c = rw (fails (c .if1 .taken) (c .before .is-either .ensures))
+returns c = rw (fails (c .if1 .taken) (c .before .rank-allowed .ensures))
+
+causal-allowed-requires : tie.Need-causal-allowed-requires
+causal-allowed-requires c κs = search needs
 
 returns-2 : tie.Need-returns-2
 unfolding settingsHold
 returns-2 c =
     let a = c .before .before in
-    rw (passes (a .if1 .left) (a .before .is-either .ensures), lt-leb _ _ (c .if2 .taken))
+    rw (passes (a .if1 .left) (a .before .rank-allowed .ensures), fails (c .if2 .taken) (c .before .causal-allowed .ensures))
 
 mode-allowed-requires : tie.Need-mode-allowed-requires
 mode-allowed-requires c κs = search needs
@@ -28,7 +30,7 @@ unfolding settingsHold
 returns-3 c =
     let b = c .before .before in
     let a = b .before .before in
-    rw (passes (a .if1 .left) (a .before .is-either .ensures), le-leb _ _ (b .if2 .left), fails (c .if3 .taken) (c .before .mode-allowed .ensures))
+    rw (passes (a .if1 .left) (a .before .rank-allowed .ensures), passes (b .if2 .left) (b .before .causal-allowed .ensures), fails (c .if3 .taken) (c .before .mode-allowed .ensures))
 
 scale-allowed-requires : tie.Need-scale-allowed-requires
 scale-allowed-requires c κs = search needs
@@ -40,8 +42,8 @@ returns-4 c =
     let b = d .before .before in
     let a = b .before .before in
     rw (
-      passes (a .if1 .left) (a .before .is-either .ensures),
-      le-leb _ _ (b .if2 .left),
+      passes (a .if1 .left) (a .before .rank-allowed .ensures),
+      passes (b .if2 .left) (b .before .causal-allowed .ensures),
       passes (d .if3 .left) (d .before .mode-allowed .ensures),
       fails (c .if4 .taken) (c .before .scale-allowed .ensures),
     )
@@ -58,8 +60,8 @@ returns-5 c =
     let a = b .before .before in
     c .cap-allowed .ensures
     ∙ rw (
-      passes (a .if1 .left) (a .before .is-either .ensures),
-      le-leb _ _ (b .if2 .left),
+      passes (a .if1 .left) (a .before .rank-allowed .ensures),
+      passes (b .if2 .left) (b .before .causal-allowed .ensures),
       passes (d .if3 .left) (d .before .mode-allowed .ensures),
       passes (e .if4 .left) (e .before .scale-allowed .ensures),
     )
@@ -68,8 +70,9 @@ pub settings-hold-spec : {M : Type 1} → statement M
 settings-hold-spec =
     tie.close
     (tie.spec
-    is-either-requires
+    rank-allowed-requires
     returns
+    causal-allowed-requires
     returns-2
     mode-allowed-requires
     returns-3

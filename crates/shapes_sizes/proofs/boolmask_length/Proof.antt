@@ -1,4 +1,4 @@
--- `refusals::lengths::boolmask_length` meets its contract, kind by kind. Assumes nothing.
+-- `shapes_sizes::boolmask_length` meets its contract, kind by kind. Assumes nothing.
 use mathlib.Core.Path.{_∙_}
 use mathlib.Core.Logic.{inl}
 use Rattle.call.proofs.MaskBounds.{mask-bounds}

@@ -1,4 +1,4 @@
--- `refusals::lengths::cached_length` meets its contract, form by form. Assumes nothing.
+-- `shapes_sizes::cached_length` meets its contract, form by form. Assumes nothing.
 use mathlib.Core.Path.{_∙_}
 use native.Mathlib.Omega.{arith}
 use Rattle.call.proofs.Facts.{limits→facts}

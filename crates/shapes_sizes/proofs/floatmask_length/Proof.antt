@@ -1,4 +1,4 @@
--- `refusals::lengths::floatmask_length` meets its contract, kind by kind. Assumes nothing.
+-- `shapes_sizes::floatmask_length` meets its contract, kind by kind. Assumes nothing.
 use mathlib.Core.Path.{_∙_}
 use mathlib.Core.Logic.{inr}
 use Rattle.call.proofs.MaskBounds.{mask-bounds}

@@ -1,4 +1,4 @@
--- `refusals::lengths::live_length` meets its contract, form by form. Assumes nothing.
+-- `shapes_sizes::live_length` meets its contract, form by form. Assumes nothing.
 use borrow.Author.Needs.{needs}
 use Rattle.shapes_sizes.proofs.live_length.Statement.{statement}
 use Rattle.shapes_sizes.proofs.live_length.Tie as tie

@@ -1,4 +1,4 @@
--- `refusals::lengths::product` meets its contract: the product of the limits fits. Assumes nothing.
+-- `shapes_sizes::product` meets its contract: the product of the limits fits. Assumes nothing.
 use native.Mathlib.Nat.{mul-le-mul}
 use native.Mathlib.Omega.{arith}
 use borrow.Author.Needs.{needs}

@@ -1,4 +1,4 @@
--- `refusals::lengths::scores_length` meets its contract, mode by mode. Assumes nothing.
+-- `shapes_sizes::scores_length` meets its contract, mode by mode. Assumes nothing.
 use mathlib.Core.Path.{_∙_}
 use native.Mathlib.Omega.{arith}
 use Rattle.call.proofs.Facts.{limits→facts}

@@ -1,4 +1,4 @@
--- `refusals::record::is_either` meets its contract. Assumes nothing.
+-- `shapes_tests::is_either` meets its contract. Assumes nothing.
 use borrow.Author.Tests.{eq-eqb, ne-eqb}
 use Rattle.shapes_tests.proofs.is_either.Statement.{statement}
 use Rattle.shapes_tests.proofs.is_either.Tie as tie

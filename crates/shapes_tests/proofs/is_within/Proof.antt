@@ -1,4 +1,4 @@
--- `refusals::record::is_within` meets its contract. Assumes nothing.
+-- `shapes_tests::is_within` meets its contract. Assumes nothing.
 use borrow.Author.Tests.{le-leb, lt-leb}
 use Rattle.shapes_tests.proofs.is_within.Statement.{statement}
 use Rattle.shapes_tests.proofs.is_within.Tie as tie

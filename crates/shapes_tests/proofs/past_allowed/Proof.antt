@@ -1,4 +1,4 @@
--- `refusals::record::past_allowed` meets its contract, form by form. Assumes nothing.
+-- `shapes_tests::past_allowed` meets its contract, form by form. Assumes nothing.
 use borrow.Author.Needs.{needs}
 use Rattle.shapes_tests.proofs.past_allowed.Statement.{statement}
 use Rattle.shapes_tests.proofs.past_allowed.Tie as tie

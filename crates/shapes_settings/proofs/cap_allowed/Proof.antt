@@ -1,11 +1,11 @@
--- `shapes_tests::cap_allowed` meets its contract: the bounds are the definition's. Assumes nothing.
+-- `shapes_settings::cap_allowed` meets its contract: the bounds are the definition's. Assumes nothing.
 use mathlib.Core.Path.{_≡_, sym, ap}
 use mathlib.Core.Bool.{Bool, true, false, _&&_}
 use lib.IntN.{pos}
 use lib.Ieee.{Float, fin, le, ofBits}
 use Rattle.call.specs.Limits.{capAllowed}
-use Rattle.shapes_tests.proofs.cap_allowed.Statement.{statement}
-use Rattle.shapes_tests.proofs.cap_allowed.Tie as tie
+use Rattle.shapes_settings.proofs.cap_allowed.Statement.{statement}
+use Rattle.shapes_settings.proofs.cap_allowed.Tie as tie
 
 -- by what the test of the lower bound gives
 by-test : (z : Float) (t : Bool) → le (fin false 0 (pos 0)) z ≡ t → (t && le z (fin false 1 (pos 16))) ≡ capAllowed z

@@ -1,7 +1,7 @@
--- `refusals::record::mode_allowed` meets its contract. Assumes nothing.
+-- `shapes_settings::mode_allowed` meets its contract. Assumes nothing.
 use borrow.Author.Needs.{needs}
-use Rattle.shapes_tests.proofs.mode_allowed.Statement.{statement}
-use Rattle.shapes_tests.proofs.mode_allowed.Tie as tie
+use Rattle.shapes_settings.proofs.mode_allowed.Statement.{statement}
+use Rattle.shapes_settings.proofs.mode_allowed.Tie as tie
 
 enum-told : tie.Need-enum-told
 enum-told c = search needs

@@ -1,8 +1,8 @@
--- `refusals::record::scale_allowed` meets its contract: the bounds are the definition's. Assumes nothing.
+-- `shapes_settings::scale_allowed` meets its contract: the bounds are the definition's. Assumes nothing.
 use borrow.Author.Needs.{needs}
 use lib.Ieee.{ofBits}
-use Rattle.shapes_tests.proofs.scale_allowed.Statement.{statement}
-use Rattle.shapes_tests.proofs.scale_allowed.Tie as tie
+use Rattle.shapes_settings.proofs.scale_allowed.Statement.{statement}
+use Rattle.shapes_settings.proofs.scale_allowed.Tie as tie
 
 enum-told : tie.Need-enum-told
 enum-told c = search needs
