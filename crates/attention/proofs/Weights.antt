@@ -1,24 +1,30 @@
 -- What an accepted call computes: every weight lies from 0 to 1, E is asked only where it has a value, no element of any tensor is NaN, and the tensors lent for writing do not matter as they came in. Assumes nothing.
-use mathlib.Core.Path.{_≡_, refl, sym, _∙_, subst}
+use mathlib.Core.Path.{_≡_, refl, sym, ap, _∙_, subst}
 use Prim.Native.Nat.{ℕ, zero, suc, _-_, _*_, _^_, _≤_, _<_}
 use native.Mathlib.Omega.{arith}
 use mathlib.Core.Bool.{Bool, true, false, not, cond}
 use lib.Dec.{T, ltb, ltb→lt, lit≤}
 use lib.ListN.{getD}
 use lib.Ieee.{Float, binary32, round, sub, le, isNan}
+use lib.Ieee.Exact.{HasValue}
 use lib.Ieee.Scale.{finite}
 use Rattle.float_laws.proofs.Order.{plus-finite, finite-not-nan}
 use Rattle.tensor_laws.specs.Layout.{tensorOf}
 use Rattle.tensor_laws.proofs.Cells.{every-tabulate, every-cell}
-use Rattle.exponential.specs.ExpNeg.{plusZero}
+use Rattle.tables.specs.declared.DefaultScale.{DefaultScale}
+use Rattle.tables.specs.Scale.{ScaleRule}
+use Rattle.tables.proofs.Scale.{default-scale}
+use Rattle.exponential.specs.ExpNeg.{plusZero, one}
 use Rattle.exponential.proofs.Laws.{InUnit, hasValue}
-use Rattle.softmax.specs.Row.{largest, largestOf}
+use Rattle.softmax.specs.Row.{largest, largestOf, termOf}
 use Rattle.softmax.specs.Lists.{hidden}
 use Rattle.softmax.proofs.Bounds.{bounded, elementBound, scoreBound, bounded-finite, whole-plus}
-use Rattle.softmax.proofs.Unit.{asked-where-valued, weight-in-unit, output-bounded}
+use Rattle.softmax.proofs.Unit.{asked-where-valued, largest-one, weight-in-unit, output-bounded}
 use Rattle.call.specs.declared.Call.{Call}
 use Rattle.call.specs.declared.Form.{Form}
 use Rattle.call.specs.declared.Form.the-variants.{Plain, Cached, Counted}
+use Rattle.call.specs.declared.Scale.{Scale}
+use Rattle.call.specs.declared.Scale.the-variants.{Absent}
 use Rattle.call.specs.declared.ScoreMode.{ScoreMode}
 use Rattle.call.specs.declared.ScoreMode.the-variants.{NoScores, Mode}
 use Rattle.call.specs.declared.Verdict.the-variants.{Accepted}
@@ -30,7 +36,7 @@ use Rattle.call.proofs.Accepted.{Accepts, verdict→accepts}
 use Rattle.call.proofs.Facts.{limits→facts}
 use Rattle.attention.specs.Elements.{keyHeadOf, keyAt, valueAt}
 use Rattle.attention.specs.Admission.{admits}
-use Rattle.attention.specs.Formula.{dotScore, maskedScore, cappedScore, attentionWeight, attentionOutput, shownScore}
+use Rattle.attention.specs.Formula.{defaultOr, scaleWhere, effectiveScale, dotScore, maskedScore, cappedScore, attentionWeight, attentionOutput, shownScore}
 use Rattle.attention.specs.Outcomes.{whereCached, presentKeyTensor, presentValueTensor, whereShown, scoresTensor, outputTensor, workRow, Outcome, acceptedOf, attentionOf}
 use Rattle.attention.proofs.Outcome.{accepted-outcome}
 use Rattle.attention.proofs.Facts.{key-head-lt, key-bounded, value-bounded}
@@ -39,6 +45,15 @@ use Rattle.attention.proofs.Bounded.{MaskFits, admits→live, dot-score
 -- two calls that differ only in the tensors lent for writing, both accepted, have the same outcome
 pub outputs-independent : (c : Call) (x : Inputs) (y y' : Outputs) → verdictOf c x y ≡ Accepted → verdictOf c x y' ≡ Accepted → attentionOf c x y ≡ attentionOf c x y'
 outputs-independent c x y y' e e' = accepted-outcome c x y e ∙ sym (accepted-outcome c x y' e')
+
+-- The effective scale of an accepted call that gives none obeys the rule of the default scale for its head size.
+pub absent-scale : (c : Call) (x : Inputs) (y : Outputs) → verdictOf c x y ≡ Accepted → c .scale ≡ Absent
+    → (m : ℕ) × (e : ℕ) × HasValue (effectiveScale c) false m (2 ^ e) × ScaleRule (c .size) m e
+unfolding effectiveScale
+absent-scale c x y accepted absent =
+    let l = limits→facts c (verdict→accepts c x y accepted .limits) in
+    let (s, m, e, d, v, r) = default-scale (c .size) (l .size-some) (l .size-most) in
+    (m, e, subst (λ (z : Float). HasValue z false m (2 ^ e)) (sym (ap (λ (k : Scale). scaleWhere k (c .size)) absent ∙ ap (λ (k : DefaultScale). defaultOr k plusZero) d)) v, r)
 
 zero-in-unit : InUnit plusZero
 zero-in-unit = record { sign = tt; at-most = unfold le in tt }
@@ -73,6 +88,13 @@ module _ (c : Call) (x : Inputs) (y : Outputs) (accepted : verdictOf c x y ≡ A
   -- E is never asked below 0 or at NaN
   pub exponential-asked-where-valued : (b h i : ℕ) → b < c .batches → h < c .qheads → i < c .qlen → (m : Float) → largestOf (totalOf c) (admits c x b h i) (cappedScore c x b h i) ≡ largest m → (j : ℕ) → j < totalOf c → admits c x b h i j ≡ true → T (hasValue (sub binary32 m (cappedScore c x b h i j)))
   exponential-asked-where-valued b h i hb hh hi = asked-where-valued (totalOf c) (admits c x b h i) (cappedScore c x b h i) (λ k l s. capped-score-finite a b h i hb hh hi fit k s)
+
+  -- where a row admits any key, one that it admits has the largest score, and E of that is 1
+  pub largest-score-one : (b h i j : ℕ) → b < c .batches → h < c .qheads → i < c .qlen → j < totalOf c → admits c x b h i j ≡ true
+      → (k : ℕ) × (k < totalOf c) × (admits c x b h i k ≡ true)
+      × ((l : ℕ) → l < totalOf c → admits c x b h i l ≡ true → T (le (cappedScore c x b h i l) (cappedScore c x b h i k)))
+      × (termOf (largestOf (totalOf c) (admits c x b h i) (cappedScore c x b h i)) (cappedScore c x b h i k) ≡ one)
+  largest-score-one b h i j hb hh hi hj s = largest-one (totalOf c) (admits c x b h i) (cappedScore c x b h i) small (λ k l s. capped-score-finite a b h i hb hh hi fit k s) j hj s
 
   work-row-in-unit : (i : ℕ) → InUnit (getD (workRow c x) i plusZero)
   unfolding workRow

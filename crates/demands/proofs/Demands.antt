@@ -2,7 +2,7 @@
 use mathlib.Core.Path.{_≡_, refl, sym, ap, _∙_, subst}
 use mathlib.Core.Logic.{_⊎_, inl, inr}
 use mathlib.Core.Bool.{Bool, true, false, true≢false}
-use mathlib.Core.List.{List, [], _∷_}
+use mathlib.Core.List.{List}
 use Prim.Native.Nat.{ℕ}
 use native.Mathlib.Omega.{arith}
 use Rattle.call.specs.declared.Call.{Call}
@@ -24,10 +24,12 @@ use Rattle.attention.specs.Outcomes.{Outcome, outcomeOf, acceptedOf, maskedRows
 use Rattle.attention.specs.Entries.{outcomeAt}
 use Rattle.attention.proofs.Outcome.{refused-outcome, accepted-outcome}
 use Rattle.attention.proofs.Entries.{taken-outcome, not-taken-outcome}
-use Rattle.sequence.specs.Chunks.{Chunk, State, start, inputsAt, outputsAt, chunkCall, chunkOutcome, nextState, stateAfter}
+use Rattle.sequence.specs.Chunks.{Run, entryRun, Chunk}
 use Rattle.sequence.specs.Demand.{Demand3}
+use Rattle.sequence.specs.Cuts.{CutHolds}
 use Rattle.sequence.proofs.Theorem.{demand3}
-use Rattle.demands.specs.Demands.{Demand1, Demand2, Programs, Meets, chunkAt, chunkBy, stateBy}
+use Rattle.sequence.proofs.Cuts.{cut-holds}
+use Rattle.demands.specs.Demands.{Demand1, Demand2, Programs, Meets, runOf}
 
 -- ---- one call at an entry
 
@@ -111,31 +113,18 @@ module _ (e : Entry) (c : Call) (x : Inputs) (y : Outputs) (answer : Answer) (le
 
 -- ---- demand 3
 
-module _ (run : Programs) (meets : Meets run) (s : Call) where
-  -- a chunk through the programs has the outcome that demand 3 speaks of
-  pub chunk-by : (st : State) (r : Chunk) → chunkBy run s st r ≡ chunkOutcome s st r
-  unfolding chunkOutcome
-  chunk-by st r = go (r .entry) refl
-    where
-      go : (e : Entry) → r .entry ≡ e → chunkAt run (r .entry) s st r ≡ outcomeAt (r .entry) (chunkCall s (st .past) r) (inputsAt (r .entry) st r) (outputsAt (r .entry) r)
-      go general h =
-          ap (λ (e : Entry). chunkAt run e s st r) h
-          ∙ meets .attention _ _ _
-          ∙ ap (λ (e : Entry). outcomeAt general (chunkCall s (st .past) r) (inputsAt e st r) (outputsAt e r)) h
-          ∙ sym (ap (λ (e : Entry). outcomeAt e (chunkCall s (st .past) r) (inputsAt e st r) (outputsAt e r)) h)
-      go step h =
-          ap (λ (e : Entry). chunkAt run e s st r) h
-          ∙ meets .step _ _ _ _ _ _ _ _ _ _
-          ∙ sym (ap (λ (e : Entry). outcomeAt e (chunkCall s (st .past) r) (inputsAt e st r) (outputsAt e r)) h)
+-- programs that meet the contracts are the entries
+pub met : (p : Programs) → Meets p → runOf p ≡ entryRun
+met p m = λ i e c x y. same e c x y i
+  where
+    same : (e : Entry) (c : Call) (x : Inputs) (y : Outputs) → runOf p e c x y ≡ entryRun e c x y
+    same general c x y = m .attention c x y
+    same step c x y = m .step c (x .query) (x .key) (x .value) (x .pastKey) (x .pastValue) (y .output) (y .presentKey) (y .presentValue) (y .work)
 
-  -- and so has the state after every sequence of chunks
-  pub state-by : (st : State) (chunks : List Chunk) → stateBy run s st chunks ≡ stateAfter s st chunks
-  unfolding stateBy stateAfter
-  state-by st [] = refl
-  state-by st (r ∷ rs) =
-      ap (λ (o : Outcome). stateBy run s (nextState (o .answer) st (o .tensors)) rs) (chunk-by st r)
-      ∙ state-by (nextState (chunkOutcome s st r .answer) st (chunkOutcome s st r .tensors)) rs
+-- demand 3 of the sequences of chunks that come through the programs, each through either
+pub demand-3 : (p : Programs) → Meets p → (s : Call) (chunks : List Chunk) → Demand3 (runOf p) s chunks
+demand-3 p m s chunks = subst (λ (run : Run). Demand3 run s chunks) (sym (met p m)) (demand3 s chunks)
 
-  -- demand 3 of the sequences of chunks that come through the programs, each through either
-  pub demand-3 : (chunks : List Chunk) → Demand3 s chunks × (stateBy run s start chunks ≡ stateAfter s start chunks)
-  demand-3 chunks = (demand3 s chunks, state-by start chunks)
+-- and the corollary on cuts
+pub cuts : (p : Programs) → Meets p → (s : Call) (r : Chunk) (rs : List Chunk) → CutHolds (runOf p) s r rs
+cuts p m s r rs = subst (λ (run : Run). CutHolds run s r rs) (sym (met p m)) (cut-holds s r rs)

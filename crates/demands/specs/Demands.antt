@@ -1,7 +1,7 @@
 -- The three demands as statements about what a call answers and leaves at either entry: `answer` and `left` stand for the answer of a call c with the tensors x and y at the entry e, and for its tensors at exit. The step entry is lent no masks, live counts and scores; they are empty there. Definitions only.
 use mathlib.Core.Path.{_≡_}
 use mathlib.Core.Bool.{true}
-use mathlib.Core.List.{List, [], _∷_}
+use mathlib.Core.List.{List}
 use lib.Ieee.{Float}
 use Rattle.call.specs.declared.Call.{Call}
 use Rattle.call.specs.declared.Refusal.{Refusal}
@@ -14,7 +14,7 @@ use Rattle.call.specs.Refusals.{Clear, GivenFirst, linksOf}
 use Rattle.call.specs.Places.{AtFirst}
 use Rattle.attention.specs.Outcomes.{Outcome, outputTensor, presentKeyTensor, presentValueTensor, scoresTensor, workRow, maskedRowsOf, attentionOf}
 use Rattle.attention.specs.Entries.{stepInputs, stepOutputs, stepOf}
-use Rattle.sequence.specs.Chunks.{Chunk, State, lentOf, chunkCall, chunkInputs, isDone, nextState}
+use Rattle.sequence.specs.Chunks.{Run, isDone}
 
 -- Demand 1: there is an answer. A refusal is the first that applies, names the first place at fault, and leaves every tensor as it came in; where none is given none applies.
 pub record Demand1 (e : Entry) (c : Call) (x : Inputs) (y : Outputs) (answer : Answer) (left : Outputs) : Type 0 where
@@ -38,21 +38,13 @@ pub record Programs : Type 0 where
   pub attention : Call → Inputs → Outputs → Outcome
   pub step : Call → (query key value pastKey pastValue output presentKey presentValue work : List Float) → Outcome
 
--- they meet the entries' contracts
+-- They meet the entries' contracts: on every record, whatever its numbers, and on tensors of every length and of every value that a float of the logic may have.
 pub record Meets (run : Programs) : Type 0 where
   pub attention : (c : Call) (x : Inputs) (y : Outputs) → run .attention c x y ≡ attentionOf c x y
   pub step : (c : Call) (query key value pastKey pastValue output presentKey presentValue work : List Float)
       → run .step c query key value pastKey pastValue output presentKey presentValue work ≡ stepOf c (stepInputs query key value pastKey pastValue) (stepOutputs output presentKey presentValue work)
 
--- a chunk through the program of its entry, and the state after a sequence of chunks
-abbrev pub chunkAt : Programs → Entry → Call → State → Chunk → Outcome
-chunkAt run general s st r = run .attention (chunkCall s (st .past) r) (chunkInputs st r) (lentOf r)
-chunkAt run step s st r =
-    run .step (chunkCall s (st .past) r) (r .query) (r .key) (r .value) (st .key) (st .value) (r .lent .output) (r .lent .presentKey) (r .lent .presentValue) (r .lent .work)
-
-abbrev pub chunkBy : Programs → Call → State → Chunk → Outcome
-chunkBy run s st r = chunkAt run (r .entry) s st r
-
-unfoldable pub stateBy : Programs → Call → State → List Chunk → State
-stateBy run s st [] = st
-stateBy run s st (r ∷ rs) = stateBy run s (nextState (chunkBy run s st r .answer) st (chunkBy run s st r .tensors)) rs
+-- the two programs as one run; the step program is lent no masks, live counts and scores
+abbrev pub runOf : Programs → Run
+runOf p general c x y = p .attention c x y
+runOf p step c x y = p .step c (x .query) (x .key) (x .value) (x .pastKey) (x .pastValue) (y .output) (y .presentKey) (y .presentValue) (y .work)

@@ -10,23 +10,23 @@ use Rattle.session_file.specs.Form.{fileOf}
 use Rattle.session_laws.specs.Sessions.{Savable}
 use Rattle.session_laws.proofs.Saved.{saved-holds}
 use Rattle.sequence.specs.Positions.{Position}
-use Rattle.sequence.specs.Chunks.{Chunk, State, start, chunkOutcome, stateAfter, historyAfter}
+use Rattle.sequence.specs.Chunks.{entryRun, Chunk, State, start, chunkOutcome, stateAfter, historyAfter}
 use Rattle.sequence.proofs.Kept.{kept-start, kept-after, next, history-append}
 use Rattle.saved_sequence.specs.Resumed.{sizesFor, sessionFor, stateIn, historySession, fileAfter, resumed, ChunksFit, Resumes}
 use Rattle.saved_sequence.proofs.Saved.{after-savable}
 
 -- the state after two sequences is that after the second, from where the first leads
-state-append : (s : Call) (st : State) (before after : List Chunk) → stateAfter s st (before ++ after) ≡ stateAfter s (stateAfter s st before) after
+state-append : (s : Call) (st : State) (before after : List Chunk) → stateAfter entryRun s st (before ++ after) ≡ stateAfter entryRun s (stateAfter entryRun s st before) after
 unfolding stateAfter
 state-append s st [] after = refl
 state-append s st (r ∷ before) after = state-append s (next s st r) before after
 
 module _ (s : Call) (chunks : List Chunk) (limits : sizesHold (sizesFor s) ≡ true) (c : ChunksFit chunks) where
   abbrev history : List Position
-  history = historyAfter s start [] chunks
+  history = historyAfter entryRun s start [] chunks
 
   abbrev st : State
-  st = stateAfter s start chunks
+  st = stateAfter entryRun s start chunks
 
   -- the state as a session is the history as one
   session-is : sessionFor s st ≡ historySession s history
@@ -49,7 +49,7 @@ module _ (s : Call) (chunks : List Chunk) (limits : sizesHold (sizesFor s) ≡ t
     file = ap fileOf session-is;
     reads = saved-holds (sessionFor s st) savable .reads ∙ ap (SessionRead (sizesFor s)) total;
     state = state-back;
-    states = λ later. ap (λ (x : State). stateAfter s x later) state-back ∙ sym (state-append s start chunks later);
-    outcomes = λ later r. ap (λ (x : State). chunkOutcome s x r) (ap (λ (x : State). stateAfter s x later) state-back ∙ sym (state-append s start chunks later));
-    histories = λ later. ap (λ (x : State). historyAfter s x history later) state-back ∙ sym (history-append s start [] chunks later);
+    states = λ later. ap (λ (x : State). stateAfter entryRun s x later) state-back ∙ sym (state-append s start chunks later);
+    outcomes = λ later r. ap (λ (x : State). chunkOutcome entryRun s x r) (ap (λ (x : State). stateAfter entryRun s x later) state-back ∙ sym (state-append s start chunks later));
+    histories = λ later. ap (λ (x : State). historyAfter entryRun s x history later) state-back ∙ sym (history-append s start [] chunks later);
   }

@@ -16,7 +16,7 @@ use Rattle.session_file.specs.Sizes.{sizesHold}
 use Rattle.session_laws.specs.Sessions.{AllWithin, Savable}
 use Rattle.session_laws.specs.Statements.{AllFit}
 use Rattle.sequence.specs.Positions.{Position, nowhere, positionOf, keyCache, valueCache}
-use Rattle.sequence.specs.Chunks.{Chunk, State, start, lengthOf, positionsOf, entered, joined, historyNext, historyAfter}
+use Rattle.sequence.specs.Chunks.{entryRun, Chunk, State, start, lengthOf, positionsOf, entered, joined, historyNext, historyAfter}
 use Rattle.sequence.proofs.Places.{AllGood, chunkPosition, below-or-past, position-old}
 use Rattle.sequence.proofs.Plain.{PlainGood}
 use Rattle.sequence.proofs.Step.{key-cache-length, value-cache-length, key-cache-cell, value-cache-cell}
@@ -66,7 +66,7 @@ next-fits s st history r kf vf hf = go (entered s st history r)
     go true = both-fit history (positionsOf s r) hf (chunk-fits s r kf vf)
     go false = hf
 
-after-fits : (s : Call) (st : State) (history : List Position) (rs : List Chunk) → ChunksFit rs → HistoryFits history → HistoryFits (historyAfter s st history rs)
+after-fits : (s : Call) (st : State) (history : List Position) (rs : List Chunk) → ChunksFit rs → HistoryFits history → HistoryFits (historyAfter entryRun s st history rs)
 unfolding historyAfter
 after-fits s st history [] c hf = hf
 after-fits s st history (r ∷ rs) c hf = after-fits s (next s st r) (historyNext s st history r) rs (c .2) (next-fits s st history r (c .0) (c .1) hf)
@@ -106,7 +106,7 @@ module _ (s : Call) (history : List Position) (good : AllGood s history) (f32 : 
       go (no l) = omega arith
 
 -- the history after a sequence of chunks of f32 can be saved
-pub after-savable : (s : Call) (chunks : List Chunk) → sizesHold (sizesFor s) ≡ true → ChunksFit chunks → Savable (historySession s (historyAfter s start [] chunks))
+pub after-savable : (s : Call) (chunks : List Chunk) → sizesHold (sizesFor s) ≡ true → ChunksFit chunks → Savable (historySession s (historyAfter entryRun s start [] chunks))
 after-savable s chunks limits c =
     let k = kept-after s start [] chunks (kept-start s) in
-    history-savable s (historyAfter s start [] chunks) (k .good) (after-fits s start [] chunks c (λ i. nowhere-fits)) limits (k .plain)
+    history-savable s (historyAfter entryRun s start [] chunks) (k .good) (after-fits s start [] chunks c (λ i. nowhere-fits)) limits (k .plain)

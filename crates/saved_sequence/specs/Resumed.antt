@@ -12,7 +12,7 @@ use Rattle.session_file.specs.Reader.{readOf, sessionAt}
 use Rattle.session_file.specs.Writer.{written, appendOf}
 use Rattle.session_laws.specs.Statements.{AllFit}
 use Rattle.sequence.specs.Positions.{Position, keyCache, valueCache}
-use Rattle.sequence.specs.Chunks.{Chunk, State, start, chunkOutcome, stateAfter, historyAfter}
+use Rattle.sequence.specs.Chunks.{entryRun, Chunk, State, start, chunkOutcome, stateAfter, historyAfter}
 
 -- ---- a state as a session, and back
 
@@ -35,11 +35,11 @@ historySession s history = sessionOf (sizesFor s) (length history) (keyCache s h
 -- the file of the state after a sequence of chunks, and the state that is read back from it
 unfoldable pub fileAfter : Call → List Chunk → List ℕ
 unfolding fileOf stateAfter
-fileAfter s chunks = fileOf (sessionFor s (stateAfter s start chunks))
+fileAfter s chunks = fileOf (sessionFor s (stateAfter entryRun s start chunks))
 
 unfoldable pub resumed : Call → List Chunk → State
 unfolding sessionAt fileAfter stateAfter
-resumed s chunks = stateIn (sessionAt (sizesFor s) (fileAfter s chunks) (stateAfter s start chunks .past))
+resumed s chunks = stateIn (sessionAt (sizesFor s) (fileAfter s chunks) (stateAfter entryRun s start chunks .past))
 
 -- keys and values of every chunk are f32
 abbrev pub ChunksFit : List Chunk → Type 0
@@ -49,14 +49,14 @@ ChunksFit (r ∷ rs) = AllFit (r .key) × AllFit (r .value) × ChunksFit rs
 -- What holds of a sequence of chunks with settings s that is saved, and then of every later sequence.
 pub record Resumes (s : Call) (chunks : List Chunk) : Type 0 where
   -- the file holds the history, and is read whole
-  pub file : fileAfter s chunks ≡ fileOf (historySession s (historyAfter s start [] chunks))
-  pub reads : readOf (fileAfter s chunks) ≡ SessionRead (sizesFor s) (length (historyAfter s start [] chunks))
+  pub file : fileAfter s chunks ≡ fileOf (historySession s (historyAfter entryRun s start [] chunks))
+  pub reads : readOf (fileAfter s chunks) ≡ SessionRead (sizesFor s) (length (historyAfter entryRun s start [] chunks))
   -- the state that is read back is the state that was saved
-  pub state : resumed s chunks ≡ stateAfter s start chunks
+  pub state : resumed s chunks ≡ stateAfter entryRun s start chunks
   -- so every later state, every later outcome and every later history is that of a recording that is never stopped
-  pub states : (later : List Chunk) → stateAfter s (resumed s chunks) later ≡ stateAfter s start (chunks ++ later)
-  pub outcomes : (later : List Chunk) (r : Chunk) → chunkOutcome s (stateAfter s (resumed s chunks) later) r ≡ chunkOutcome s (stateAfter s start (chunks ++ later)) r
-  pub histories : (later : List Chunk) → historyAfter s (resumed s chunks) (historyAfter s start [] chunks) later ≡ historyAfter s start [] (chunks ++ later)
+  pub states : (later : List Chunk) → stateAfter entryRun s (resumed s chunks) later ≡ stateAfter entryRun s start (chunks ++ later)
+  pub outcomes : (later : List Chunk) (r : Chunk) → chunkOutcome entryRun s (stateAfter entryRun s (resumed s chunks) later) r ≡ chunkOutcome entryRun s (stateAfter entryRun s start (chunks ++ later)) r
+  pub histories : (later : List Chunk) → historyAfter entryRun s (resumed s chunks) (historyAfter entryRun s start [] chunks) later ≡ historyAfter entryRun s start [] (chunks ++ later)
 
 -- A file that holds a history, to which a writer adds positions of f32 and says saved, holds the history and then those positions.
 abbrev pub AppendExtends : Call → (history ps : List Position) → Type 0

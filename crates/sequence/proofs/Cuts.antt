@@ -10,7 +10,7 @@ use Rattle.call.specs.Profile.{takes}
 use Rattle.call.specs.Lengths.{inputsFit, outputsFit}
 use Rattle.call.proofs.Facts.{groups-same, settings-same, fit→lengths, lengths→fit}
 use Rattle.sequence.specs.Positions.{Position, plainCall}
-use Rattle.sequence.specs.Chunks.{Chunk, start, lengthOf, lentOf, chunkCall, chunkInputs, chunkOutcome, positionsOf, plainAccepted, entered, isDone}
+use Rattle.sequence.specs.Chunks.{entryRun, Chunk, start, lengthOf, lentOf, chunkCall, chunkInputs, chunkOutcome, positionsOf, plainAccepted, entered, isDone}
 use Rattle.sequence.specs.Cuts.{cachesFor, fitsAfter, allFit, allPositions, allAccepted, CutHolds}
 use Rattle.sequence.proofs.Places.{stateOf, AllGood, good-before, length-joined}
 use Rattle.sequence.proofs.Plain.{split, both, PlainGood, plain→good, good→plain}
@@ -58,7 +58,7 @@ fits-entered s history r e p =
     fits→entered s history r (g .0) (caches-fit s history r (g .1)) (f .1) p
 
 -- after a history, chunks that fit are all accepted where the plain call over the history and all their positions is
-plain→all : (s : Call) (history : List Position) (rs : List Chunk) → AllGood s history → allFit s (length history) rs ≡ true → PlainGood s (history ++ allPositions s rs) → allAccepted s (stateOf s history) rs ≡ true
+plain→all : (s : Call) (history : List Position) (rs : List Chunk) → AllGood s history → allFit s (length history) rs ≡ true → PlainGood s (history ++ allPositions s rs) → allAccepted entryRun s (stateOf s history) rs ≡ true
 unfolding allFit allPositions allAccepted
 plain→all s history [] good fit p = refl
 plain→all s history (r ∷ rs) good fit p =
@@ -68,19 +68,19 @@ plain→all s history (r ∷ rs) good fit p =
     let q = plain-before s (history ++ positionsOf s r) (allPositions s rs) (omega arith) w in
     let e = fits-entered s history r (f .0) q in
     let rest = plain→all s (history ++ positionsOf s r) rs (q .good) (subst (λ m. allFit s m rs ≡ true) (sym n) (f .1)) w in
-    both (done-entered s history r good ∙ e) (subst (λ st. allAccepted s st rs ≡ true) (sym (state-entered s history r e)) rest)
+    both (done-entered s history r good ∙ e) (subst (λ st. allAccepted entryRun s st rs ≡ true) (sym (state-entered s history r e)) rest)
 
 -- where all chunks after a history are accepted, the plain call over the history and the first is, and the others are on its caches
-first-accepted : (s : Call) (history : List Position) (r : Chunk) (rs : List Chunk) → AllGood s history → allAccepted s (stateOf s history) (r ∷ rs) ≡ true
-    → PlainGood s (history ++ positionsOf s r) × (allAccepted s (stateOf s (history ++ positionsOf s r)) rs ≡ true)
+first-accepted : (s : Call) (history : List Position) (r : Chunk) (rs : List Chunk) → AllGood s history → allAccepted entryRun s (stateOf s history) (r ∷ rs) ≡ true
+    → PlainGood s (history ++ positionsOf s r) × (allAccepted entryRun s (stateOf s (history ++ positionsOf s r)) rs ≡ true)
 unfolding allAccepted
 first-accepted s history r rs good a =
-    let f = split (isDone (chunkOutcome s (stateOf s history) r .answer)) (allAccepted s (next s (stateOf s history) r) rs) a in
+    let f = split (isDone (chunkOutcome entryRun s (stateOf s history) r .answer)) (allAccepted entryRun s (next s (stateOf s history) r) rs) a in
     let e = sym (done-entered s history r good) ∙ f .0 in
-    (entered→plain s history r e, subst (λ st. allAccepted s st rs ≡ true) (state-entered s history r e) (f .1))
+    (entered→plain s history r e, subst (λ st. allAccepted entryRun s st rs ≡ true) (state-entered s history r e) (f .1))
 
 -- after an accepted history, the plain call over the history and all positions of chunks is accepted where all of them are
-all→plain : (s : Call) (history : List Position) (rs : List Chunk) → PlainGood s history → allAccepted s (stateOf s history) rs ≡ true → PlainGood s (history ++ allPositions s rs)
+all→plain : (s : Call) (history : List Position) (rs : List Chunk) → PlainGood s history → allAccepted entryRun s (stateOf s history) rs ≡ true → PlainGood s (history ++ allPositions s rs)
 unfolding allPositions
 all→plain s history [] p a = subst (PlainGood s) (sym (append-nil history)) p
 all→plain s history (r ∷ rs) p a =
@@ -93,12 +93,12 @@ each-way false true f g = g refl
 each-way false false f g = refl
 
 -- however positions are cut into chunks with tensors of the right lengths, all are accepted exactly when the one plain call over all of them is
-pub cut-holds : (s : Call) (r : Chunk) (rs : List Chunk) → CutHolds s r rs
+pub cut-holds : (s : Call) (r : Chunk) (rs : List Chunk) → CutHolds entryRun s r rs
 unfolding allPositions
 cut-holds s r rs fit =
     let k = kept-start s in
-    each-way (allAccepted s start (r ∷ rs)) (plainAccepted s (allPositions s (r ∷ rs)))
-    (λ a. let f = first-accepted s [] r rs (k .good) (subst (λ st. allAccepted s st (r ∷ rs) ≡ true) (k .state) a) in
+    each-way (allAccepted entryRun s start (r ∷ rs)) (plainAccepted s (allPositions s (r ∷ rs)))
+    (λ a. let f = first-accepted s [] r rs (k .good) (subst (λ st. allAccepted entryRun s st (r ∷ rs) ≡ true) (k .state) a) in
     good→plain s (allPositions s (r ∷ rs)) (all→plain s (positionsOf s r) rs (f .0) (f .1)))
-    (λ p. subst (λ st. allAccepted s st (r ∷ rs) ≡ true) (sym (k .state))
+    (λ p. subst (λ st. allAccepted entryRun s st (r ∷ rs) ≡ true) (sym (k .state))
     (plain→all s [] (r ∷ rs) (k .good) fit (plain→good s (allPositions s (r ∷ rs)) p)))

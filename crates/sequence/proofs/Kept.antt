@@ -9,7 +9,7 @@ use Rattle.tensor_laws.proofs.Tabulate.{none-long}
 use Rattle.call.specs.declared.Call.{Call}
 use Rattle.attention.specs.Outcomes.{acceptedOf}
 use Rattle.sequence.specs.Positions.{Position, keyCache, valueCache}
-use Rattle.sequence.specs.Chunks.{Chunk, State, start, chunkCall, chunkInputs, chunkOutcome, nextState, stateAfter, positionsOf, entered, joined, historyNext, historyAfter}
+use Rattle.sequence.specs.Chunks.{entryRun, Chunk, State, start, chunkCall, chunkInputs, chunkOutcome, nextState, stateAfter, positionsOf, entered, joined, historyNext, historyAfter}
 use Rattle.sequence.proofs.Places.{stateOf, AllGood, length-joined}
 use Rattle.sequence.proofs.Plain.{PlainGood}
 use Rattle.sequence.proofs.Refusing.{state-stays}
@@ -26,7 +26,7 @@ pub record Kept (s : Call) (st : State) (history : List Position) : Type 0 where
 -- the state after a chunk
 abbrev pub next : Call → State → Chunk → State
 unfolding chunkOutcome
-next s st r = nextState (chunkOutcome s st r .answer) st (chunkOutcome s st r .tensors)
+next s st r = nextState (chunkOutcome entryRun s st r .answer) st (chunkOutcome entryRun s st r .tensors)
 
 module _ (s : Call) (st : State) (history : List Position) (r : Chunk) where
   -- an entered chunk's positions are added to the history
@@ -57,7 +57,7 @@ module _ (s : Call) (history : List Position) (r : Chunk) where
 
   state-other : AllGood s history → entered s (stateOf s history) history r ≡ false → next s (stateOf s history) r ≡ stateOf s history
   unfolding chunkOutcome
-  state-other good e = state-stays (chunkOutcome s (stateOf s history) r .answer) (stateOf s history) (chunkOutcome s (stateOf s history) r .tensors) (other-outcome s history r good e .0)
+  state-other good e = state-stays (chunkOutcome entryRun s (stateOf s history) r .answer) (stateOf s history) (chunkOutcome entryRun s (stateOf s history) r .tensors) (other-outcome s history r good e .0)
 
   kept-by-chunk : AllGood s history → (1 ≤ length history → PlainGood s history) → Kept s (next s (stateOf s history) r) (historyNext s (stateOf s history) history r)
   kept-by-chunk good plain = go (entered s (stateOf s history) history r) refl
@@ -91,13 +91,13 @@ kept-start s = record {
     none size = rw (mul-zero, zero-mul)
 
 -- after a sequence
-pub kept-after : (s : Call) (st : State) (history : List Position) (rs : List Chunk) → Kept s st history → Kept s (stateAfter s st rs) (historyAfter s st history rs)
+pub kept-after : (s : Call) (st : State) (history : List Position) (rs : List Chunk) → Kept s st history → Kept s (stateAfter entryRun s st rs) (historyAfter entryRun s st history rs)
 unfolding stateAfter historyAfter
 kept-after s st history [] k = k
 kept-after s st history (r ∷ rs) k = kept-after s (next s st r) (historyNext s st history r) rs (kept-next s st history r k)
 
 -- the history after a sequence begins with that before it
-pub history-extends : (s : Call) (st : State) (history : List Position) (rs : List Chunk) → (later : List Position) × (historyAfter s st history rs ≡ history ++ later)
+pub history-extends : (s : Call) (st : State) (history : List Position) (rs : List Chunk) → (later : List Position) × (historyAfter entryRun s st history rs ≡ history ++ later)
 unfolding historyAfter
 history-extends s st history [] = ([], sym (append-nil history))
 history-extends s st history (r ∷ rs) =
@@ -107,7 +107,7 @@ history-extends s st history (r ∷ rs) =
 
 -- the history after two sequences is that after the second, from where the first leads
 pub history-append : (s : Call) (st : State) (history : List Position) (before after : List Chunk)
-    → historyAfter s st history (before ++ after) ≡ historyAfter s (stateAfter s st before) (historyAfter s st history before) after
+    → historyAfter entryRun s st history (before ++ after) ≡ historyAfter entryRun s (stateAfter entryRun s st before) (historyAfter entryRun s st history before) after
 unfolding stateAfter historyAfter
 history-append s st history [] after = refl
 history-append s st history (r ∷ before) after = history-append s (next s st r) (historyNext s st history r) before after

@@ -9,3 +9,4 @@ pub mod Kept
 pub mod Theorem
 pub mod Cuts
 pub mod Settings
+pub mod Lent

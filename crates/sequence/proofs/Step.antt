@@ -1,5 +1,5 @@
 -- One chunk on the caches of a history: no refusal applies to it exactly when it is entered, and what it then leaves. Assumes nothing.
-use mathlib.Core.Path.{_≡_, refl, ap, _∙_}
+use mathlib.Core.Path.{_≡_, refl, sym, ap, _∙_, subst}
 use mathlib.Core.List.{List, _++_}
 use mathlib.Core.Bool.{Bool, true, false, _&&_}
 use Prim.Native.Nat.{ℕ, _*_, _<_}
@@ -12,7 +12,7 @@ use Rattle.call.specs.declared.Call.{Call}
 use Rattle.call.specs.declared.Form.the-variants.{Cached}
 use Rattle.call.specs.declared.Verdict.{Verdict}
 use Rattle.call.specs.declared.Verdict.the-variants.{Accepted, Refused}
-use Rattle.call.specs.Profile.{takes}
+use Rattle.call.specs.Profile.{Entry, general, step, takes}
 use Rattle.call.specs.Tensors.{Inputs}
 use Rattle.call.specs.Lengths.{inputsFit, outputsFit}
 use Rattle.call.specs.Contents.{liveFault, byteMaskFault, floatMaskFault}
@@ -21,12 +21,12 @@ use Rattle.call.proofs.Clear.{no-live, no-bytes, no-cells}
 use Rattle.call.proofs.Accepted.{Accepts, verdict→accepts, accepts→verdict}
 use Rattle.call.proofs.Facts.{groups-same, settings-same, shape-without-mask, fit→lengths}
 use Rattle.attention.specs.Elements.{cellAt}
-use Rattle.attention.specs.Outcomes.{acceptedOf, attentionOf}
+use Rattle.attention.specs.Outcomes.{Outcome, acceptedOf, attentionOf}
 use Rattle.attention.specs.Entries.{outcomeAt}
 use Rattle.attention.proofs.Outcome.{accepted-outcome, refused-outcome}
 use Rattle.attention.proofs.Entries.{taken-outcome, not-taken-outcome}
 use Rattle.sequence.specs.Positions.{Position, positionOf, plainCall, keyCache, valueCache}
-use Rattle.sequence.specs.Chunks.{Chunk, lengthOf, lentOf, chunkCall, chunkInputs, chunkOutcome, positionsOf, plainAccepted, entered, isDone}
+use Rattle.sequence.specs.Chunks.{entryRun, Chunk, State, inputsAt, outputsAt, lengthOf, lentOf, chunkCall, chunkInputs, chunkOutcome, positionsOf, plainAccepted, entered, isDone}
 use Rattle.sequence.proofs.Cells.{nothing→good, good→nothing, nothing→good-incoming, good→nothing-incoming}
 use Rattle.sequence.proofs.Places.{stateOf, length-joined, AllGood, good-before, good-chunk, good-joined}
 use Rattle.sequence.proofs.Plain.{split, limits→limited, limited→limits, PlainGood, plain→good, good→plain}
@@ -52,6 +52,16 @@ module _ (s : Call) (history : List Position) where
       → cellAt (valueCache s history) 4 (s .kvheads) (length history) (s .vsize) b g j k ≡ positionOf history j .value b g k
   unfolding valueCache
   value-cache-cell b g j k = getD-tensorOf 4 (s .batches) (s .kvheads) (length history) (s .vsize) (λ b g j k. positionOf history j .value b g k) b g j k nan
+
+-- ---- what a chunk is lent is all that its entry looks at
+
+pub chunk-entry : (s : Call) (st : State) (r : Chunk) → chunkOutcome entryRun s st r ≡ outcomeAt (r .entry) (chunkCall s (st .past) r) (chunkInputs st r) (lentOf r)
+unfolding chunkOutcome
+chunk-entry s st r = go (r .entry)
+  where
+    go : (e : Entry) → entryRun e (chunkCall s (st .past) r) (inputsAt e st r) (outputsAt e r) ≡ outcomeAt e (chunkCall s (st .past) r) (inputsAt e st r) (outputsAt e r)
+    go general = refl
+    go step = refl
 
 -- ---- accepted exactly when entered
 
@@ -134,19 +144,17 @@ module _ (s : Call) (history : List Position) (r : Chunk) where
 
   -- an entered chunk is accepted
   pub entered-outcome : entered s (stateOf s history) history r ≡ true
-      → chunkOutcome s (stateOf s history) r ≡ acceptedOf (chunkCall s (length history) r) (chunkInputs (stateOf s history) r)
-  unfolding chunkOutcome
+      → chunkOutcome entryRun s (stateOf s history) r ≡ acceptedOf (chunkCall s (length history) r) (chunkInputs (stateOf s history) r)
   entered-outcome e =
       let p = entered→parts e in
       let c = chunkCall s (length history) r in
       let x = chunkInputs (stateOf s history) r in
-      taken-outcome c x (lentOf r) (r .entry) (p .0) ∙ accepted-outcome c x (lentOf r) (accepts→verdict c x (lentOf r) (plain→accepts (p .1) (p .2) (p .3)))
+      chunk-entry s (stateOf s history) r ∙ taken-outcome c x (lentOf r) (r .entry) (p .0) ∙ accepted-outcome c x (lentOf r) (accepts→verdict c x (lentOf r) (plain→accepts (p .1) (p .2) (p .3)))
 
   -- any other chunk is refused: its answer is not done, and every lent tensor is as before
   pub other-outcome : AllGood s history → entered s (stateOf s history) history r ≡ false
-      → (isDone (chunkOutcome s (stateOf s history) r .answer) ≡ false) × (chunkOutcome s (stateOf s history) r .tensors ≡ lentOf r)
-  unfolding chunkOutcome
-  other-outcome good e = by-entry (takes (r .entry) c) refl
+      → (isDone (chunkOutcome entryRun s (stateOf s history) r .answer) ≡ false) × (chunkOutcome entryRun s (stateOf s history) r .tensors ≡ lentOf r)
+  other-outcome good e = subst (λ (o : Outcome). (isDone (o .answer) ≡ false) × (o .tensors ≡ lentOf r)) (sym (chunk-entry s (stateOf s history) r)) (by-entry (takes (r .entry) c) refl)
     where
       c : Call
       c = chunkCall s (length history) r

@@ -11,7 +11,7 @@ use Rattle.attention.specs.Elements.{cellAt}
 use Rattle.attention.specs.Formula.{attentionOutput}
 use Rattle.attention.proofs.Outcome.{accepted-output}
 use Rattle.sequence.specs.Positions.{Position, positionOf, plainCall, plainInputs}
-use Rattle.sequence.specs.Chunks.{Chunk, State, start, lengthOf, chunkCall, chunkInputs, chunkOutcome, stateAfter, positionsOf, entered, historyNext, historyAfter, isDone}
+use Rattle.sequence.specs.Chunks.{entryRun, Chunk, State, start, lengthOf, chunkCall, chunkInputs, chunkOutcome, stateAfter, positionsOf, entered, historyNext, historyAfter, isDone}
 use Rattle.sequence.specs.Demand.{ChunkHolds, Demand3}
 use Rattle.sequence.proofs.Plain.{good→plain}
 use Rattle.sequence.proofs.Places.{stateOf, AllGood, length-joined, position-old}
@@ -21,14 +21,14 @@ use Rattle.sequence.proofs.Kept.{Kept, next, history-entered, kept-star
 
 module _ (s : Call) (history : List Position) (r : Chunk) where
   -- a chunk is accepted exactly when it is entered
-  pub done-entered : AllGood s history → isDone (chunkOutcome s (stateOf s history) r .answer) ≡ entered s (stateOf s history) history r
+  pub done-entered : AllGood s history → isDone (chunkOutcome entryRun s (stateOf s history) r .answer) ≡ entered s (stateOf s history) history r
   done-entered good = go (entered s (stateOf s history) history r) refl
     where
-      go : (t : Bool) → entered s (stateOf s history) history r ≡ t → isDone (chunkOutcome s (stateOf s history) r .answer) ≡ entered s (stateOf s history) history r
+      go : (t : Bool) → entered s (stateOf s history) history r ≡ t → isDone (chunkOutcome entryRun s (stateOf s history) r .answer) ≡ entered s (stateOf s history) history r
       go true e = ap (λ o. isDone (o .answer)) (entered-outcome s history r e) ∙ ap isDone (chunk-answer s history r) ∙ sym e
       go false e = other-outcome s history r good e .0 ∙ sym e
 
-  answer-entered : entered s (stateOf s history) history r ≡ true → chunkOutcome s (stateOf s history) r .answer ≡ Done (length (historyNext s (stateOf s history) history r)) 0
+  answer-entered : entered s (stateOf s history) history r ≡ true → chunkOutcome entryRun s (stateOf s history) r .answer ≡ Done (length (historyNext s (stateOf s history) history r)) 0
   answer-entered e =
       ap (λ o. o .answer) (entered-outcome s history r e)
       ∙ chunk-answer s history r
@@ -36,7 +36,7 @@ module _ (s : Call) (history : List Position) (r : Chunk) where
 
   row-entered : (whole later : List Position) → whole ≡ historyNext s (stateOf s history) history r ++ later → entered s (stateOf s history) history r ≡ true
       → (b h i k : ℕ) → b < s .batches → h < s .qheads → i < lengthOf r → k < s .vsize
-      → cellAt (chunkOutcome s (stateOf s history) r .tensors .output) (s .rank) (s .qheads) (lengthOf r) (s .vsize) b h i k
+      → cellAt (chunkOutcome entryRun s (stateOf s history) r .tensors .output) (s .rank) (s .qheads) (lengthOf r) (s .vsize) b h i k
       ≡ attentionOutput (plainCall s whole) (plainInputs s whole) b h (length history + i) k
   row-entered whole later w e b h i k hb hh hi hk =
       let c = chunkCall s (length history) r in
@@ -51,7 +51,7 @@ module _ (s : Call) (history : List Position) (r : Chunk) where
       (λ j l. ap (λ q. positionOf q j) begins ∙ position-old ps later j (omega arith))
       b h i k hb hh hi hk
 
-  chunk-holds : AllGood s history → (whole later : List Position) → whole ≡ historyNext s (stateOf s history) history r ++ later → ChunkHolds s (stateOf s history) history r whole
+  chunk-holds : AllGood s history → (whole later : List Position) → whole ≡ historyNext s (stateOf s history) history r ++ later → ChunkHolds entryRun s (stateOf s history) history r whole
   chunk-holds good whole later w = record {
     accepted = done-entered good;
     answer = answer-entered;
@@ -60,23 +60,23 @@ module _ (s : Call) (history : List Position) (r : Chunk) where
   }
 
 -- what holds of one chunk, on a state that is the caches of the history
-kept-holds : (s : Call) (st : State) (history : List Position) (r : Chunk) (whole later : List Position) → Kept s st history → whole ≡ historyNext s st history r ++ later → ChunkHolds s st history r whole
+kept-holds : (s : Call) (st : State) (history : List Position) (r : Chunk) (whole later : List Position) → Kept s st history → whole ≡ historyNext s st history r ++ later → ChunkHolds entryRun s st history r whole
 kept-holds s st history r whole later k =
-    subst (λ st. whole ≡ historyNext s st history r ++ later → ChunkHolds s st history r whole) (sym (k .state)) (chunk-holds s history r (k .good) whole later)
+    subst (λ st. whole ≡ historyNext s st history r ++ later → ChunkHolds entryRun s st history r whole) (sym (k .state)) (chunk-holds s history r (k .good) whole later)
 
 -- of every sequence of chunks demand 3 holds
-pub demand3 : (s : Call) (chunks : List Chunk) → Demand3 s chunks
+pub demand3 : (s : Call) (chunks : List Chunk) → Demand3 entryRun s chunks
 unfolding historyAfter
 demand3 s chunks =
     let k = kept-after s start [] chunks (kept-start s) in
     record {
       each = λ before r after e.
-          let st = stateAfter s start before in
-          let history = historyAfter s start [] before in
+          let st = stateAfter entryRun s start before in
+          let history = historyAfter entryRun s start [] before in
           let later = history-extends s (next s st r) (historyNext s st history r) after in
-          kept-holds s st history r (historyAfter s start [] chunks) (later .0) (kept-after s start [] before (kept-start s))
-          (ap (historyAfter s start []) e ∙ history-append s start [] before (r ∷ after) ∙ later .1);
-      plain = λ some. good→plain s (historyAfter s start [] chunks) (k .plain some);
+          kept-holds s st history r (historyAfter entryRun s start [] chunks) (later .0) (kept-after s start [] before (kept-start s))
+          (ap (historyAfter entryRun s start []) e ∙ history-append s start [] before (r ∷ after) ∙ later .1);
+      plain = λ some. good→plain s (historyAfter entryRun s start [] chunks) (k .plain some);
       total = ap (λ st. st .past) (k .state);
       keys = ap (λ st. st .key) (k .state);
       values = ap (λ st. st .value) (k .state);

@@ -20,7 +20,7 @@ use Rattle.call.specs.Lengths.{inputsFit, outputsFit}
 use Rattle.call.specs.Refusals.{verdictOf}
 use Rattle.attention.specs.Elements.{cellAt}
 use Rattle.attention.specs.Outcomes.{Outcome, attentionOf}
-use Rattle.attention.specs.Entries.{stepOf, outcomeAt}
+use Rattle.attention.specs.Entries.{stepInputs, stepOutputs, stepOf}
 use Rattle.sequence.specs.Positions.{Position, causalCall, plainCall, plainInputs, rightOutputs}
 
 -- A chunk of one position and `more`, and the entry that it comes through. Its tensors may have any lengths and bits; its past tensors are not its own.
@@ -81,9 +81,17 @@ chunkInputs st r = inputsAt (r .entry) st r
 abbrev pub lentOf : Chunk → Outputs
 lentOf r = outputsAt (r .entry) r
 
-unfoldable pub chunkOutcome : Call → State → Chunk → Outcome
-unfolding attentionOf stepOf
-chunkOutcome s st r = outcomeAt (r .entry) (chunkCall s (st .past) r) (chunkInputs st r) (lentOf r)
+-- what an entry answers and leaves, of every call
+abbrev pub Run : Type 0
+Run = Entry → Call → Inputs → Outputs → Outcome
+
+-- the two entries; the step entry looks at what it is lent alone
+abbrev pub entryRun : Run
+entryRun general c x y = attentionOf c x y
+entryRun step c x y = stepOf c (stepInputs (x .query) (x .key) (x .value) (x .pastKey) (x .pastValue)) (stepOutputs (y .output) (y .presentKey) (y .presentValue) (y .work))
+
+unfoldable pub chunkOutcome : Run → Call → State → Chunk → Outcome
+chunkOutcome run s st r = run (r .entry) (chunkCall s (st .past) r) (chunkInputs st r) (lentOf r)
 
 -- the call was accepted
 abbrev pub isDone : Answer → Bool
@@ -94,10 +102,10 @@ isDone (NotDone r) = false
 abbrev pub nextState : Answer → State → Outputs → State
 nextState a st y = cond (isDone a) (record { past = reportOf a .total; key = y .presentKey; value = y .presentValue }) st
 
-unfoldable pub stateAfter : Call → State → List Chunk → State
+unfoldable pub stateAfter : Run → Call → State → List Chunk → State
 unfolding chunkOutcome
-stateAfter s st [] = st
-stateAfter s st (r ∷ rs) = stateAfter s (nextState (chunkOutcome s st r .answer) st (chunkOutcome s st r .tensors)) rs
+stateAfter run s st [] = st
+stateAfter run s st (r ∷ rs) = stateAfter run s (nextState (chunkOutcome run s st r .answer) st (chunkOutcome run s st r .tensors)) rs
 
 -- ---- the history
 
@@ -139,8 +147,8 @@ unfoldable pub historyNext : Call → State → List Position → Chunk → List
 unfolding entered positionsOf
 historyNext s st history r = joined (entered s st history r) history (positionsOf s r)
 
-unfoldable pub historyAfter : Call → State → List Position → List Chunk → List Position
+unfoldable pub historyAfter : Run → Call → State → List Position → List Chunk → List Position
 unfolding historyNext chunkOutcome
-historyAfter s st history [] = history
-historyAfter s st history (r ∷ rs) =
-    historyAfter s (nextState (chunkOutcome s st r .answer) st (chunkOutcome s st r .tensors)) (historyNext s st history r) rs
+historyAfter run s st history [] = history
+historyAfter run s st history (r ∷ rs) =
+    historyAfter run s (nextState (chunkOutcome run s st r .answer) st (chunkOutcome run s st r .tensors)) (historyNext s st history r) rs

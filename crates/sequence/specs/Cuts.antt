@@ -9,7 +9,7 @@ use Rattle.call.specs.declared.Call.{Call}
 use Rattle.call.specs.Profile.{takes}
 use Rattle.call.specs.Lengths.{inputsFit, outputsFit}
 use Rattle.sequence.specs.Positions.{Position}
-use Rattle.sequence.specs.Chunks.{Chunk, State, start, lengthOf, lentOf, chunkCall, chunkInputs, chunkOutcome, nextState, positionsOf, plainAccepted, isDone}
+use Rattle.sequence.specs.Chunks.{Run, Chunk, State, start, lengthOf, lentOf, chunkCall, chunkInputs, chunkOutcome, nextState, positionsOf, plainAccepted, isDone}
 
 -- caches of the right lengths after `past` positions
 abbrev pub cachesFor : Call → ℕ → State
@@ -35,12 +35,12 @@ allPositions s [] = []
 allPositions s (r ∷ rs) = positionsOf s r ++ allPositions s rs
 
 -- every chunk of the sequence is accepted
-unfoldable pub allAccepted : Call → State → List Chunk → Bool
+unfoldable pub allAccepted : Run → Call → State → List Chunk → Bool
 unfolding chunkOutcome
-allAccepted s st [] = true
-allAccepted s st (r ∷ rs) =
-    isDone (chunkOutcome s st r .answer) && allAccepted s (nextState (chunkOutcome s st r .answer) st (chunkOutcome s st r .tensors)) rs
+allAccepted run s st [] = true
+allAccepted run s st (r ∷ rs) =
+    isDone (chunkOutcome run s st r .answer) && allAccepted run s (nextState (chunkOutcome run s st r .answer) st (chunkOutcome run s st r .tensors)) rs
 
 -- the chunks are r and rs, so there is one position at least
-abbrev pub CutHolds : Call → Chunk → List Chunk → Type 0
-CutHolds s r rs = allFit s 0 (r ∷ rs) ≡ true → allAccepted s start (r ∷ rs) ≡ plainAccepted s (allPositions s (r ∷ rs))
+abbrev pub CutHolds : Run → Call → Chunk → List Chunk → Type 0
+CutHolds run s r rs = allFit s 0 (r ∷ rs) ≡ true → allAccepted run s start (r ∷ rs) ≡ plainAccepted s (allPositions s (r ∷ rs))

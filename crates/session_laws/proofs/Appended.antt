@@ -2,8 +2,8 @@
 use mathlib.Core.Path.{_≡_, refl, sym, ap, _∙_, subst}
 use mathlib.Core.Bool.{Bool, true, false, _&&_, _||_, true≢false}
 use mathlib.Core.List.{List, _++_, append-assoc}
-use Prim.Native.Nat.{ℕ, _+_, _*_, _≤_, _<_}
-use native.Mathlib.Nat.{zero-add}
+use Prim.Native.Nat.{ℕ, suc, _+_, _*_, _≤_, _<_}
+use native.Mathlib.Nat.{zero-add, lt-of-not-le}
 use native.Mathlib.Omega.{arith}
 use lib.Dec.{eqb}
 use lib.Ieee.{Float, nan}
@@ -25,7 +25,7 @@ use Rattle.session_file.proofs.Walks.{Standing, read→standing}
 use Rattle.session_laws.specs.Sessions.{AllWithin, Savable, bothOf}
 use Rattle.session_laws.specs.Statements.{AllFit, AppendHolds}
 use Rattle.session_laws.proofs.Caches.{by-cells}
-use Rattle.session_laws.proofs.Cuts.{standing-cut, cut→read}
+use Rattle.session_laws.proofs.Cuts.{position-mono, record-end, standing-cut, cut→read}
 use Rattle.session_laws.proofs.Given.{first-all, session-cut, standing→savable}
 use Rattle.session_laws.proofs.Stands.{length-row, row-cell}
 use Rattle.session_laws.proofs.Files.{length-both, standing-both, session-both}
@@ -73,6 +73,9 @@ take-written s i w h =
     let l = length-take-le i s (omega arith) in
     ap (take (i + length w)) (sym (append-assoc (take i s) w (drop (i + length w) s)))
     ∙ take-at (take i s ++ w) (drop (i + length w) s) (i + length w) (omega (arith, length-append (take i s) w))
+
+front-written : (s : List ℕ) (i : ℕ) (w : List ℕ) → i ≤ length s → take i (writtenAt s i w) ≡ take i s
+front-written s i w h = take-at (take i s) (w ++ drop (i + length w) s) i (length-take-le i s h)
 
 drop-written : (s : List ℕ) (i : ℕ) (w : List ℕ) → i + length w ≤ length s → drop (i + length w) (writtenAt s i w) ≡ drop (i + length w) s
 drop-written s i w h =
@@ -151,6 +154,10 @@ module _ (buffer : List ℕ) (used count : ℕ) (keys values : List Float) (m u 
       ∙ session-cut z (take used buffer) n n (positionAt z n) (omega arith) (omega arith)
       ∙ first-all (sessionAt z (take used buffer) n) (standing→savable (take used buffer) z n file-stands)
 
+  -- a record that ends before byte u is that of a saved position
+  below : (p : ℕ) → positionAt z (suc p) ≤ u → p < m
+  below p h = lt-of-not-le (λ l. let a = position-mono z (n + count) p (omega (arith, x .total)) in let b = record-end z p (suc p) (omega arith) in omega (arith, x .end))
+
   holds : AppendHolds buffer used count keys values m u left
   holds = record {
     z = z;
@@ -158,8 +165,11 @@ module _ (buffer : List ℕ) (used count : ℕ) (keys values : List Float) (m u 
     file = x .file;
     total = sym (x .total);
     end = sym (x .end) ∙ ap (positionAt z) (x .total);
+    saved = λ p l. let e = position-mono z (suc p) (n + count) (omega (arith, x .total)) in omega (arith, x .end);
+    only = λ p h. below p h;
     inside = omega (arith, ap length left-is, length-take u left, long, x .end);
     behind = (λ i. drop ((sym (x .end) ∙ sym added-long) i) (sym (x .buffer-left) i)) ∙ drop-written buffer (positionAt z n) added fits-in ∙ ap (λ (i : ℕ). drop i buffer) (added-long ∙ x .end);
+    before = ap (take (positionAt z n)) (sym (x .buffer-left)) ∙ front-written buffer (positionAt z n) added (omega (arith, fits-in));
     reads = ap readOf left-is ∙ ends→read (old ++ added) z (n + count) all-stand long ∙ ap (SessionRead z) (x .total);
     session = (λ i. sessionAt z (left-is i) (sym (x .total) i)) ∙ session-both old n new old-stands old-ends savable (x .most) ∙ ap (λ (s : Session). bothOf s new) old-session;
     cut = λ c l h. ap readOf (sym (take-take c u left h) ∙ ap (take c) left-is) ∙ cut→read (old ++ added) z (n + count) c all-stand l (omega (arith, x .end));

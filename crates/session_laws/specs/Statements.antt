@@ -1,7 +1,7 @@
 -- What is promised of saved sessions. Definitions only.
 use mathlib.Core.Path.{_≡_}
 use mathlib.Core.List.{List}
-use Prim.Native.Nat.{ℕ, _+_, _-_, _/_, _≤_, _<_}
+use Prim.Native.Nat.{ℕ, suc, _+_, _-_, _/_, _≤_, _<_}
 use lib.Dec.{T}
 use lib.Ieee.{Float, nan, binary32, fits}
 use lib.ListN.{length, getD, take, drop}
@@ -54,9 +54,13 @@ pub record AppendHolds (buffer : List ℕ) (used count : ℕ) (keys values : Lis
   pub file : readOf (take used buffer) ≡ SessionRead z n
   pub total : m ≡ n + count
   pub end : u ≡ positionAt z m
-  -- the last byte of the last one stands in the buffer, which is as long as before, and the same behind it
+  -- position p is among the saved exactly where the last byte of its record stands before byte u
+  pub saved : (p : ℕ) → p < m → positionAt z (suc p) ≤ u
+  pub only : (p : ℕ) → positionAt z (suc p) ≤ u → p < m
+  -- the last byte of the last one stands in the buffer, which is as long as before, and the same behind it and before the first that was added
   pub inside : u ≤ length left
   pub behind : drop u left ≡ drop u buffer
+  pub before : take (positionAt z n) left ≡ take (positionAt z n) buffer
   -- without what is behind it the reader gives m positions: those of the file, and then those that were added
   pub reads : readOf (take u left) ≡ SessionRead z m
   pub session : sessionAt z (take u left) m ≡ bothOf (sessionAt z (take used buffer) n) (sessionOf z count keys values)

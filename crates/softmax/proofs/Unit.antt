@@ -234,13 +234,24 @@ module _ (n : ℕ) (sees : ℕ → Bool) (score : ℕ → Float) (small : n ≤ 
       go noneSeen e h = absurd (true≢false (ap isNone (sym e) ∙ h))
       go (largest m) e h = (m, e)
 
+  -- where the row sees some position, one that it sees has the largest score, and E of that is 1
+  pub largest-one : (j : ℕ) → j < n → sees j ≡ true
+      → (i : ℕ) × (i < n) × (sees i ≡ true) × ((k : ℕ) → k < n → sees k ≡ true → T (le (score k) (score i))) × (termOf (largestOf n sees score) (score i) ≡ one)
+  largest-one j l s =
+      let (m, e) = has-largest j l s in
+      let (i, a, b, c) = largest-reached n sees score ok m e in (
+        i,
+        a,
+        b,
+        λ k q r. subst (λ (z : Float). T (le (score k) z)) (sym c) (largest-above n sees score ok m e k q r),
+        ap (λ (k : Largest). termOf k (score i)) e ∙ ap (termOf (largest m)) c ∙ largest-term-one n sees score ok m e,
+      )
+
   -- where the row sees some position, the sum is at least 1
   pub sum-at-least-one : (j : ℕ) → j < n → sees j ≡ true → T (le one (sumOf n sees (λ i. termOf (largestOf n sees score) (score i))))
   sum-at-least-one j l s =
-      let (m, e) = has-largest j l s in
-      let (i, a, b, c) = largest-reached n sees score ok m e in
-      one-reached n sees (λ i. termOf (largestOf n sees score) (score i)) small (λ i. term-in-unit (largestOf n sees score) (score i)) i a b
-      (ap (λ (k : Largest). termOf k (score i)) e ∙ ap (termOf (largest m)) c ∙ largest-term-one n sees score ok m e)
+      let (i, a, b, above, t) = largest-one j l s in
+      one-reached n sees (λ i. termOf (largestOf n sees score) (score i)) small (λ i. term-in-unit (largestOf n sees score) (score i)) i a b t
 
   -- a weight is a number from 0 to 1
   pub weight-in-unit : (j : ℕ) → j < n → InUnit (weightOf n sees score j)
