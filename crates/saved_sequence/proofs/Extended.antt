@@ -1,14 +1,14 @@
--- Positions that a writer adds extend the history that a file holds. Assumes nothing.
+-- Positions that a writer adds extend the history that a file holds, and a cut leaves its first ones. Assumes nothing.
 use mathlib.Core.Path.{_≡_, sym, ap, _∙_}
 use mathlib.Core.Bool.{cond}
 use mathlib.Core.List.{List, _++_}
-use Prim.Native.Nat.{ℕ, _+_, _-_, _*_, _/_, _%_, _<_}
+use Prim.Native.Nat.{ℕ, _+_, _-_, _*_, _/_, _%_, _≤_, _<_}
 use native.Mathlib.Nat.{div-lt-iff-lt-mul, div-add-mod', mod-lt}
 use native.Mathlib.Decide.{decLt}
 use native.Mathlib.Omega.{arith}
 use lib.Ieee.{Float}
 use lib.ListN.{length, take, length-append}
-use lib.Seq.{getD-append-add}
+use lib.Seq.{length-take-le, getD-take, getD-append-add}
 use borrow.Author.Tests.{lt-ltb, le-ltb}
 use Rattle.tensor_laws.proofs.Slots.{right-factor-pos}
 use Rattle.call.specs.declared.Call.{Call}
@@ -18,13 +18,15 @@ use Rattle.session_file.specs.declared.Reading.{Reading}
 use Rattle.session_file.specs.declared.Reading.the-variants.{SessionRead, NotRead}
 use Rattle.session_file.specs.Form.{Session, sessionOf}
 use Rattle.session_file.specs.Reader.{sessionAt}
-use Rattle.session_laws.specs.Sessions.{cacheCell, cacheOf, cellBehind, bothOf}
+use Rattle.session_laws.specs.Sessions.{cacheCell, cacheOf, cellBehind, firstOf, bothOf}
+use Rattle.session_laws.specs.Statements.{wholeIn}
 use Rattle.session_laws.proofs.Caches.{cache-of-cells}
+use Rattle.session_laws.proofs.Saved.{read-holds}
 use Rattle.session_laws.proofs.Appended.{append-holds}
 use Rattle.sequence.specs.Positions.{Position, nowhere, positionOf, keyCache, valueCache}
 use Rattle.sequence.proofs.Places.{position-old}
 use Rattle.sequence.proofs.Step.{key-cache-length, value-cache-length, key-cache-cell, value-cache-cell}
-use Rattle.saved_sequence.specs.Resumed.{sizesFor, historySession, AppendExtends}
+use Rattle.saved_sequence.specs.Resumed.{sizesFor, historySession, Holds, AppendExtends}
 
 -- ---- the cache of two histories, over keys and values alike
 
@@ -68,6 +70,18 @@ module _ (batches heads size : ℕ) (part : Position → ℕ → ℕ → ℕ →
         ∙ row-cell (history ++ ps) p r k (omega arith) hr hk
         ∙ both-cell p r k (decLt p n) hp hr hk))
 
+  module _ (history : List Position) (n : ℕ) (l : n ≤ length history) where
+    first-cache : cacheOf (batches * heads) n size (cacheCell (length history) size (cache history)) ≡ cache (take n history)
+    first-cache =
+        let e : length (take n history) ≡ n = length-take-le n history l in
+        sym (cache-of-cells (batches * heads) n size (cache (take n history)) (cacheCell (length history) size (cache history))
+        (long (take n history) ∙ ap (λ (i : ℕ). batches * heads * i * size) e)
+        (λ p r k hp hr hk.
+        ap (λ (i : ℕ). cacheCell i size (cache (take n history)) p r k) (sym e)
+        ∙ row-cell (take n history) p r k (omega arith) hr hk
+        ∙ ap (λ (x : Position). part x (r / heads) (r % heads) k) (getD-take n history p nowhere hp)
+        ∙ sym (row-cell history p r k (omega arith) hr hk)))
+
 -- the session of two histories, one behind the other
 both-history : (s : Call) (history ps : List Position) → bothOf (historySession s history) (historySession s ps) ≡ historySession s (history ++ ps)
 unfolding bothOf historySession
@@ -75,6 +89,30 @@ both-history s history ps =
     let keys = both-cache (s .batches) (s .kvheads) (s .size) (λ p. p .key) (keyCache s) (key-cache-length s) (key-cache-cell s) history ps in
     let values = both-cache (s .batches) (s .kvheads) (s .vsize) (λ p. p .value) (valueCache s) (value-cache-length s) (value-cache-cell s) history ps in
     λ i. sessionOf (sizesFor s) (sym (length-append history ps) i) (keys i) (values i)
+
+-- the session of the first n positions of a history
+first-history : (s : Call) (history : List Position) (n : ℕ) → n ≤ length history → firstOf (historySession s history) n ≡ historySession s (take n history)
+unfolding firstOf historySession
+first-history s history n l =
+    let keys = first-cache (s .batches) (s .kvheads) (s .size) (λ p. p .key) (keyCache s) (key-cache-length s) (key-cache-cell s) history n l in
+    let values = first-cache (s .batches) (s .kvheads) (s .vsize) (λ p. p .value) (valueCache s) (value-cache-length s) (value-cache-cell s) history n l in
+    λ i. sessionOf (sizesFor s) (sym (length-take-le n history l) i) (keys i) (values i)
+
+-- a cut leaves the positions that are whole in it
+pub cut-holds : (s : Call) (file : List ℕ) (history : List Position) (c : ℕ) → Holds s file history → 14 ≤ c → c ≤ length file → Holds s (take c file) (take (wholeIn (sizesFor s) c) history)
+cut-holds s file history c h l inside =
+    let z = sizesFor s in
+    let k = wholeIn z c in
+    let x = read-holds file z (length history) (h .reads) in
+    let e : length (take k history) ≡ k = length-take-le k history (x .fewer c l inside) in
+    record {
+      reads = x .cut c l inside ∙ ap (SessionRead z) (sym e);
+      session =
+          ap (sessionAt z (take c file)) e
+          ∙ x .same c l inside
+          ∙ ap (λ (y : Session). firstOf y k) (h .session)
+          ∙ first-history s history k (x .fewer c l inside);
+    }
 
 -- ---- the writer
 
@@ -88,15 +126,19 @@ positionsIn (NotRead r) = 0
 
 pub append-extends : (s : Call) (history ps : List Position) → AppendExtends s history ps
 unfolding historySession
-append-extends s history ps buffer used m u left kf vf reads session e =
+append-extends s history ps buffer used m u left kf vf h e =
+    let reads = h .reads in
+    let session = h .session in
     let x = append-holds buffer used (length ps) (keyCache s ps) (valueCache s ps) m u left kf vf e in
     let z : x .z ≡ sizesFor s = ap (sizesIn (sizesFor s)) (sym (x .file) ∙ reads) in
     let n : x .n ≡ length history = ap positionsIn (sym (x .file) ∙ reads) in
-    let t : m ≡ length (history ++ ps) = x .total ∙ ap (λ (i : ℕ). i + length ps) n ∙ sym (length-append history ps) in (
-      x .reads ∙ (λ i. SessionRead (z i) (t i)),
-      (λ i. sessionAt (sym z i) (take u left) (sym t i))
+    let t : m ≡ length (history ++ ps) = x .total ∙ ap (λ (i : ℕ). i + length ps) n ∙ sym (length-append history ps) in
+    record {
+      reads = x .reads ∙ (λ i. SessionRead (z i) (t i));
+      session =
+          (λ i. sessionAt (sym z i) (take u left) (sym t i))
           ∙ x .session
           ∙ (λ i. bothOf (sessionAt (z i) (take used buffer) (n i)) (sessionOf (z i) (length ps) (keyCache s ps) (valueCache s ps)))
           ∙ ap (λ (y : Session). bothOf y (sessionOf (sizesFor s) (length ps) (keyCache s ps) (valueCache s ps))) session
-          ∙ both-history s history ps,
-    )
+          ∙ both-history s history ps;
+    }

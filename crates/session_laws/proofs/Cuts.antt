@@ -1,6 +1,6 @@
 -- A file in which positions stand, cut after any byte: the reader gives exactly the positions that are whole. Assumes nothing.
 use mathlib.Core.Path.{_≡_, sym, ap, _∙_, subst}
-use mathlib.Core.Logic.{_⊎_, inl, inr}
+use mathlib.Core.Logic.{inl, inr}
 use mathlib.Core.Bool.{Bool, true, false, _&&_, cond, true≢false}
 use mathlib.Core.List.{List}
 use Prim.Native.Nat.{ℕ, zero, suc, _+_, _-_, _*_, _/_, _≤_, _<_}
@@ -22,7 +22,7 @@ use Rattle.session_file.specs.declared.Reading.the-variants.{SessionRead, NotRe
 use Rattle.session_file.specs.Sizes.{sizesHold, mostPositions, rowsOf, payloadLength, recordLength, positionAt}
 use Rattle.session_file.specs.Reader.{nextOf, payloadFault, positionFault, atMost, onward, walkFrom, sizesAt, firstWhole, readOf}
 use Rattle.session_file.proofs.Below.{number-ext}
-use Rattle.session_file.proofs.Walks.{Standing, next-at}
+use Rattle.session_file.proofs.Walks.{Standing, next-at, Stops}
 
 -- ---- positions rise
 
@@ -51,10 +51,6 @@ module _ (z : Sizes) (file : List ℕ) (p : ℕ) where
       rw (le-ltb (length file) (positionAt z p + 6) a, h, le-ltb (length file) (positionAt z p + recordLength z) b)
 
 -- ---- the walk to a place where it stops
-
--- the walk stops behind k positions: there are fewer than six bytes, or a cut record that is not the 2,049th
-abbrev Stops : Sizes → List ℕ → ℕ → Type 0
-Stops z file k = (nextOf z file k ≡ Ended) ⊎ ((nextOf z file k ≡ Cut) × (k < mostPositions))
 
 -- a whole record without fault
 abbrev Sound : Sizes → List ℕ → ℕ → Type 0
@@ -151,14 +147,14 @@ whole-records z c l =
     let r = mod-lt (c - 14) some in
     (omega arith, omega arith)
 
-pub cut→read : (file : List ℕ) (z : Sizes) (n c : ℕ) → Standing file z n → 14 ≤ c → c ≤ positionAt z n → readOf (take c file) ≡ SessionRead z ((c - 14) / recordLength z)
-cut→read file z n c s l h = standing→read (take c file) z k kept (stop (decLt c (positionAt z k + 6)))
+-- A cut inside the record behind n positions, or before: where it leaves that record's head, the head is right and is not the 2,049th.
+pub tail→read : (file : List ℕ) (z : Sizes) (n c : ℕ) → Standing file z n → 14 ≤ c → c ≤ length file → c < positionAt z n + recordLength z
+    → (positionAt z n + 6 ≤ c → (headIs file (positionAt z n) (payloadLength z) 2 ≡ true) × (n < mostPositions))
+    → readOf (take c file) ≡ SessionRead z ((c - 14) / recordLength z)
+tail→read file z n c s l inside h tail = standing→read (take c file) z k kept (stop (decLt c (positionAt z k + 6)))
   where
     k : ℕ
     k = (c - 14) / recordLength z
-
-    inside : c ≤ length file
-    inside = omega (arith, s .inside)
 
     -- no more are whole than stand
     fewer : Dec (n < k) → k ≤ n
@@ -168,16 +164,22 @@ cut→read file z n c s l h = standing→read (take c file) z k kept (stop (decL
     kept : Standing (take c file) z k
     kept = standing-cut file z c inside n k l s (fewer (decLt n k)) (whole-records z c l .0)
 
-    before : Dec (k < n) → positionAt z k + 6 ≤ c → k < n
-    before (yes a) b = a
-    before (no a) b = let m : n ≡ k = omega (arith, fewer (decLt n k)) in absurd (omega (arith, ap (positionAt z) m))
+    head : Dec (k < n) → positionAt z k + 6 ≤ c → (headIs file (positionAt z k) (payloadLength z) 2 ≡ true) × (k < mostPositions)
+    head (yes a) b = (s .heads k a, omega (arith, s .most))
+    head (no a) b =
+        let m : n ≡ k = omega (arith, fewer (decLt n k)) in
+        subst (λ (i : ℕ). (headIs file (positionAt z i) (payloadLength z) 2 ≡ true) × (i < mostPositions)) m (tail (omega (arith, ap (positionAt z) m)))
 
     stop : Dec (c < positionAt z k + 6) → Stops z (take c file) k
     stop (yes a) = inl (ended-at z (take c file) k (omega (arith, long file z c inside)))
     stop (no a) =
-        let b = before (decLt k n) (omega arith) in
+        let b = head (decLt k n) (omega arith) in
         let m = long file z c inside in
-        inr (cut-at z (take c file) k (omega arith) (headIs-take c (positionAt z k) (payloadLength z) 2 file (omega arith) ∙ s .heads k b) (omega (arith, whole-records z c l .1)), omega (arith, s .most))
+        inr (cut-at z (take c file) k (omega arith) (headIs-take c (positionAt z k) (payloadLength z) 2 file (omega arith) ∙ b .0) (omega (arith, whole-records z c l .1)), b .1)
+
+-- a cut before the end of the positions that stand
+pub cut→read : (file : List ℕ) (z : Sizes) (n c : ℕ) → Standing file z n → 14 ≤ c → c ≤ positionAt z n → readOf (take c file) ≡ SessionRead z ((c - 14) / recordLength z)
+cut→read file z n c s l h = tail→read file z n c s l (omega (arith, s .inside)) (omega arith) (λ b. absurd (omega arith))
 
 -- without the whole first record a file is refused at byte 0
 pub first-missing : (file : List ℕ) → length file < 14 → readOf file ≡ NotRead (Record 0)

@@ -9,3 +9,4 @@ pub mod Passed
 pub mod Appended
 pub mod Kept
 pub mod Begun
+pub mod Refused

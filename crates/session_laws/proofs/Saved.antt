@@ -1,7 +1,7 @@
 -- The promises on reading: a file that is read, and the file of a session. Assumes nothing.
 use mathlib.Core.Path.{_≡_, sym, ap, _∙_, subst}
-use mathlib.Core.Logic.{inl}
-use mathlib.Core.Bool.{cond}
+use mathlib.Core.Logic.{inl, inr}
+use mathlib.Core.Bool.{cond, true}
 use mathlib.Core.List.{List}
 use Prim.Native.Nat.{ℕ, _+_, _-_, _*_, _≤_, _<_}
 use native.Mathlib.Nat.{zero-add, zero-mul, sub-zero}
@@ -10,17 +10,18 @@ use native.Mathlib.Omega.{arith}
 use lib.Ieee.{Float}
 use lib.ListN.{length, take, length-take}
 use borrow.Author.Tests.{le-ltb}
+use Rattle.records.specs.Records.{headIs}
 use Rattle.session_file.specs.declared.Sizes.{Sizes}
 use Rattle.call.specs.declared.Refusal.the-variants.{Record}
 use Rattle.session_file.specs.declared.Reading.the-variants.{SessionRead, NotRead}
-use Rattle.session_file.specs.Sizes.{mostPositions, rowsOf, recordLength, positionAt}
+use Rattle.session_file.specs.Sizes.{mostPositions, rowsOf, payloadLength, recordLength, positionAt}
 use Rattle.session_file.specs.Form.{Session, sessionOf, sizesBytes, fileOf}
 use Rattle.session_file.specs.Reader.{readOf, sessionAt}
-use Rattle.session_file.proofs.Walks.{Standing, read→standing}
+use Rattle.session_file.proofs.Walks.{Standing, Stops, read→standing, read→stops, cut→record, ended→short}
 use Rattle.session_laws.specs.Sessions.{Savable, cacheCell, cacheOf, cellBehind, firstOf, bothOf}
 use Rattle.session_laws.specs.Statements.{wholeIn, ReadHolds, SavedHolds}
 use Rattle.session_laws.proofs.Caches.{cache-of-cells}
-use Rattle.session_laws.proofs.Cuts.{record-end, ended-at, standing→read, whole-records, cut→read, first-missing}
+use Rattle.session_laws.proofs.Cuts.{record-end, ended-at, standing→read, whole-records, tail→read, cut→read, first-missing}
 use Rattle.session_laws.proofs.Given.{session-cut, standing→savable}
 use Rattle.session_laws.proofs.Rewritten.{rewritten}
 use Rattle.session_laws.proofs.Files.{begun-stands, length-both, standing-both, session-both}
@@ -33,8 +34,45 @@ whole-most z n c l h = go (decLt n (wholeIn z c))
     go (yes a) = absurd (omega (arith, record-end z n (wholeIn z c) a, whole-records z c l .0))
     go (no a) = omega arith
 
-cut-missing : (file : List ℕ) (c : ℕ) → c < 14 → readOf (take c file) ≡ NotRead (Record 0)
+-- and no fewer than those that end before it
+pub whole-least : (z : Sizes) (n c : ℕ) → positionAt z n ≤ c → n ≤ wholeIn z c
+whole-least z n c h = go (decLt (wholeIn z c) n)
+  where
+    go : Dec (wholeIn z c < n) → n ≤ wholeIn z c
+    go (yes a) = absurd (omega (arith, record-end z (wholeIn z c) n a, whole-records z c (omega arith) .1))
+    go (no a) = omega arith
+
+pub cut-missing : (file : List ℕ) (c : ℕ) → c < 14 → readOf (take c file) ≡ NotRead (Record 0)
 cut-missing file c l = first-missing (take c file) (omega (arith, length-take c file))
+
+-- what stands behind the last position of a file that is read
+module _ (file : List ℕ) (z : Sizes) (n : ℕ) (e : readOf file ≡ SessionRead z n) where
+  ends-inside : length file < positionAt z n + recordLength z
+  ends-inside = go (read→stops file z n e)
+    where
+      go : Stops z file n → length file < positionAt z n + recordLength z
+      go (inl a) = omega (arith, ended→short z file n a)
+      go (inr a) = cut→record z file n (a .0) .1
+
+  tail-head : positionAt z n + 6 ≤ length file → (headIs file (positionAt z n) (payloadLength z) 2 ≡ true) × (n < mostPositions)
+  tail-head h = go (read→stops file z n e)
+    where
+      go : Stops z file n → (headIs file (positionAt z n) (payloadLength z) 2 ≡ true) × (n < mostPositions)
+      go (inl a) = absurd (omega (arith, ended→short z file n a))
+      go (inr a) = (cut→record z file n (a .0) .0, a .1)
+
+  read-cut : (c : ℕ) → 14 ≤ c → c ≤ length file → readOf (take c file) ≡ SessionRead z (wholeIn z c)
+  read-cut c l h = tail→read file z n c (read→standing file z n e) l h (omega (arith, ends-inside)) (λ b. tail-head (omega arith))
+
+  read-fewer : (c : ℕ) → 14 ≤ c → c ≤ length file → wholeIn z c ≤ n
+  read-fewer c l h = go (decLt n (wholeIn z c))
+    where
+      go : Dec (n < wholeIn z c) → wholeIn z c ≤ n
+      go (yes a) = absurd (omega (arith, record-end z n (wholeIn z c) a, whole-records z c l .0, ends-inside))
+      go (no a) = omega arith
+
+  read-same : (c : ℕ) → 14 ≤ c → c ≤ length file → sessionAt z (take c file) (wholeIn z c) ≡ firstOf (sessionAt z file n) (wholeIn z c)
+  read-same c l h = session-cut z file n (wholeIn z c) c (read-fewer c l h) (whole-records z c l .0)
 
 module _ (file : List ℕ) (z : Sizes) (n : ℕ) (s : Standing file z n) where
   cut-same : (c : ℕ) → 14 ≤ c → c ≤ positionAt z n → sessionAt z (take c file) (wholeIn z c) ≡ firstOf (sessionAt z file n) (wholeIn z c)
@@ -48,7 +86,7 @@ module _ (file : List ℕ) (z : Sizes) (n : ℕ) (s : Standing file z n) where
 pub read-holds : (file : List ℕ) (z : Sizes) (n : ℕ) → readOf file ≡ SessionRead z n → ReadHolds file z n
 read-holds file z n e =
     let s = read→standing file z n e in
-    record { within = standing→savable file z n s; rewritten = rewritten file z n s; missing = cut-missing file; cut = λ c. cut→read file z n c s; same = cut-same file z n s }
+    record { within = standing→savable file z n s; rewritten = rewritten file z n s; missing = cut-missing file; cut = read-cut file z n e; fewer = read-fewer file z n e; same = read-same file z n e }
 
 -- ---- the file of a session
 
