@@ -8,7 +8,7 @@ use Rattle.attention.specs.Calls.{tensors, zeros}
 use Rattle.attention.specs.Table.{callE}
 use Rattle.sequence.specs.Chunks.{Chunk, start, positionsOf, plainAccepted, entered}
 
-abbrev masked : Entry → Chunk
+abbrev pub masked : Entry → Chunk
 masked e = record {
   entry = e;
   more = 0;

@@ -10,3 +10,4 @@ pub mod Theorem
 pub mod Cuts
 pub mod Settings
 pub mod Lent
+pub mod RefusesAll
