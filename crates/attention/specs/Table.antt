@@ -40,18 +40,18 @@ pub data Claim : Type 0 where
   -- under a cap a score becomes this
   underCap : Float → Float → Float → Claim
 
-abbrev pub Holds : Claim → Type 0
-Holds (outcome c x y o) = attentionOf c x y ≡ o
-Holds (exponentialAt y e) = scaledOf y ≡ e
-Holds (exponentialOf d e) = expNegOf d ≡ e
-Holds (wholePart d n) = wholePartOf (mul binary32 d log2e) ≡ n
-Holds (scaleOf D s) = defaultScaleOf D ≡ s
-Holds (keyHead c h g) = keyHeadOf c h ≡ g
-Holds (underCap c s e) = cappedWhere c s ≡ e
+abbrev pub ClaimHolds : Claim → Type 0
+ClaimHolds (outcome c x y o) = attentionOf c x y ≡ o
+ClaimHolds (exponentialAt y e) = scaledOf y ≡ e
+ClaimHolds (exponentialOf d e) = expNegOf d ≡ e
+ClaimHolds (wholePart d n) = wholePartOf (mul binary32 d log2e) ≡ n
+ClaimHolds (scaleOf D s) = defaultScaleOf D ≡ s
+ClaimHolds (keyHead c h g) = keyHeadOf c h ≡ g
+ClaimHolds (underCap c s e) = cappedWhere c s ≡ e
 
 abbrev pub AllHold : List Claim → Type 0
 AllHold [] = Unit {0}
-AllHold (claim ∷ claims) = Holds claim × AllHold claims
+AllHold (claim ∷ claims) = ClaimHolds claim × AllHold claims
 
 -- 0.5
 abbrev pub half : Float

@@ -22,20 +22,20 @@ numberOf (Record b) = 11
 numberOf Room = 16
 
 -- the tensor that the index is one of: of a call's 9 alone
-abbrev pub tensorOf : Refusal → ℕ
-tensorOf Limits = 0
-tensorOf HeadGroups = 0
-tensorOf Settings = 0
-tensorOf MaskShape = 0
-tensorOf InputLength = 0
-tensorOf OutputLength = 0
-tensorOf (LiveCount i) = 0
-tensorOf (MaskCell i) = 0
-tensorOf (Element t i) = t
-tensorOf (Position p) = 0
-tensorOf Profile = 0
-tensorOf (Record b) = 0
-tensorOf Room = 0
+abbrev pub faultTensorOf : Refusal → ℕ
+faultTensorOf Limits = 0
+faultTensorOf HeadGroups = 0
+faultTensorOf Settings = 0
+faultTensorOf MaskShape = 0
+faultTensorOf InputLength = 0
+faultTensorOf OutputLength = 0
+faultTensorOf (LiveCount i) = 0
+faultTensorOf (MaskCell i) = 0
+faultTensorOf (Element t i) = t
+faultTensorOf (Position p) = 0
+faultTensorOf Profile = 0
+faultTensorOf (Record b) = 0
+faultTensorOf Room = 0
 
 -- the index at fault, or of a file the position or the byte; 0 where there is no place
 abbrev pub placeOf : Refusal → ℕ
@@ -64,4 +64,4 @@ pub record Report : Type 0 where
 
 abbrev pub reportOf : Answer → Report
 reportOf (Done total masked) = record { number = 0; tensor = 0; index = 0; total = total; masked = masked }
-reportOf (NotDone r) = record { number = numberOf r; tensor = tensorOf r; index = placeOf r; total = 0; masked = 0 }
+reportOf (NotDone r) = record { number = numberOf r; tensor = faultTensorOf r; index = placeOf r; total = 0; masked = 0 }

@@ -47,8 +47,8 @@ abbrev pub part : ℕ → ℕ → List Float → List Float
 part a e t = take (e - a) (drop a t)
 
 -- what holds below a and from a to e holds below e
-pub joined : (P : ℕ → Type 0) (a e : ℕ) → ((k : ℕ) → k < a → P k) → ((k : ℕ) → a ≤ k → k < e → P k) → (k : ℕ) → k < e → P k
-joined P a e low high k h = by-test (ltb k a) refl
+pub below-both : (P : ℕ → Type 0) (a e : ℕ) → ((k : ℕ) → k < a → P k) → ((k : ℕ) → a ≤ k → k < e → P k) → (k : ℕ) → k < e → P k
+below-both P a e low high k h = by-test (ltb k a) refl
   where
     by-test : (b : Bool) → ltb k a ≡ b → P k
     by-test true p = low k (ltb-true k a p)
@@ -93,8 +93,8 @@ rest-index a t start clear = by-found (tensorFault (part a (length t) t)) refl
     by-found : (f : Found) → tensorFault (part a (length t) t) ≡ f → a + indexOr (tensorFault (part a (length t) t)) (length (part a (length t) t)) ≡ indexOr (tensorFault t) (length t)
     by-found nothing p =
         let n = length-part a (length t) t start (omega arith) in
-        let all = joined (λ k. elementFault (getD t k nan) ≡ false) a (length t) clear (part-clear a (length t) t start (omega arith) (tensor→clear _ p)) in
+        let all = below-both (λ k. elementFault (getD t k nan) ≡ false) a (length t) clear (part-clear a (length t) t start (omega arith) (tensor→clear _ p)) in
         rw (p, clear→tensor t all) (omega arith)
     by-found (at j) p =
         let f = part-first a (length t) t start (omega arith) j p in
-        rw (p, first→tensor t (a + j) (f .inside) (f .faulty) (joined (λ k. elementFault (getD t k nan) ≡ false) a (a + j) clear (f .before)))
+        rw (p, first→tensor t (a + j) (f .inside) (f .faulty) (below-both (λ k. elementFault (getD t k nan) ≡ false) a (a + j) clear (f .before)))

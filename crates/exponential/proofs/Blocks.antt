@@ -21,7 +21,7 @@ use Rattle.tables.specs.Power.{powerOf}
 use Rattle.exponential.specs.ExpNeg.{plusZero, limit, log2e, inRange, wholePartOf, restOf, polyOf, belowLimitOf, expNegOf, valueOrZero, expNegRowOf}
 use Rattle.exponential.specs.Blocks.{beyond, exponentOf, exponentsOf, Exponent, Exponents, polysOf, timesPower}
 use Rattle.exponential.proofs.Whole.{whole-in-range}
-use Rattle.exponential.proofs.HalvedBits.{halved-bits}
+use Rattle.exponential.proofs.HalfPowers.{half-power-bits}
 use Rattle.exponential.proofs.Laws.{fails, hasValue, has-value, value-where, no-value-where, value-at-limit, scaled-below, in-range-below}
 
 -- ---- the exponent, by the two tests
@@ -41,7 +41,7 @@ steps-in-range : (y : Float) → T (inRange y) → stepsOf y ≡ belowLimitOf y
 unfolding timesPower belowLimitOf
 steps-in-range y h =
     ap (λ (x : Float). mul binary32 (mul binary32 (powerOf (wholePartOf y % 256)) (polyOf (restOf y))) x)
-    (halved-bits (wholePartOf y / 256) (div-lt-iff-lt-mul (lit< tt) .1 (whole-in-range y h)))
+    (half-power-bits (wholePartOf y / 256) (div-lt-iff-lt-mul (lit< tt) .1 (whole-in-range y h)))
 
 steps-beyond : stepsOf beyond ≡ plusZero
 unfolding timesPower polyOf restOf

@@ -21,7 +21,7 @@ use Rattle.float_laws.proofs.Exact.{dyadic-exact, Dyadic, dyadic}
 use Rattle.float_laws.proofs.Fraction.{mul-at}
 use Rattle.tables.specs.Power.{powerOf}
 use Rattle.tables.proofs.Power.{power-rule}
-use Rattle.exponential.specs.ExpNeg.{plusZero, one, c1, c2, halved, polyOf, restOf, wholePartOf, belowLimitOf}
+use Rattle.exponential.specs.ExpNeg.{plusZero, one, c1, c2, halfPower, polyOf, restOf, wholePartOf, belowLimitOf}
 use Rattle.exponential.proofs.Whole.{Ranged, whole-lt}
 use Rattle.exponential.proofs.Rest.{rest}
 
@@ -124,8 +124,8 @@ product-within y r =
 
 -- ---- the product by 2 ^ -k
 
-halved-value : (k : ℕ) → HasValue (halved k) false 1 (2 ^ k)
-halved-value k = (refl, minus-val 1 0 k)
+half-power-value : (k : ℕ) → HasValue (halfPower k) false 1 (2 ^ k)
+half-power-value k = (refl, minus-val 1 0 k)
 
 abbrev quarter : Float
 quarter = fin false 1 (negsuc 1)
@@ -189,7 +189,7 @@ last-product y r =
       product = s .parts .value;
       exact =
           subst (λ (x : Float). HasValue x false q (2 ^ w * 2 ^ k))
-          (sym (mul-at binary32 (productOf y) (halved k) false false q (2 ^ w) 1 (2 ^ k) (pow-pos w) (pow-pos k) (s .parts .value) (halved-value k)
+          (sym (mul-at binary32 (productOf y) (halfPower k) false false q (2 ^ w) 1 (2 ^ k) (pow-pos w) (pow-pos k) (s .parts .value) (half-power-value k)
           ∙ ap (λ (a : ℕ). round binary32 false a (2 ^ w * 2 ^ k)) (mul-one q)))
           (subst (λ (c : ℕ). HasValue (round binary32 false q c) false q c) (pow-add 2 w k)
           (dyadic-exact binary32 false q (w + k) (s .parts .small) (fine w k (s .few) (div-lt-iff-lt-mul (lit< tt) .1 (whole-lt y r)))));

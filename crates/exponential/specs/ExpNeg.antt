@@ -50,14 +50,14 @@ unfolding sub mul c1 c2
 polyOf r = sub binary32 one (mul binary32 r (sub binary32 c1 (mul binary32 r c2)))
 
 -- 2 ^ -k
-abbrev pub halved : ℕ → Float
-halved k = fin false 1 (minus 0 k)
+abbrev pub halfPower : ℕ → Float
+halfPower k = fin false 1 (minus 0 k)
 
 -- (P[f] * p) * 2 ^ -k, with k = n / 256 and f = n mod 256
 unfoldable pub belowLimitOf : Float → Float
 unfolding mul powerOf polyOf restOf
 belowLimitOf y =
-    mul binary32 (mul binary32 (powerOf (wholePartOf y % 256)) (polyOf (restOf y))) (halved (wholePartOf y / 256))
+    mul binary32 (mul binary32 (powerOf (wholePartOf y % 256)) (polyOf (restOf y))) (halfPower (wholePartOf y / 256))
 
 -- E by y = d * LOG2E: +0 from 120 on
 unfoldable pub scaledOf : Float → Float

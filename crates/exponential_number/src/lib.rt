@@ -15,8 +15,8 @@ fn below_limit(powers: &[u32; 256], y: f32) -> f32
     let f = (n % 256) as usize;
     let rest = y - n as f32 / 256.0;
     let p = 1.0 - rest * (f32::from_bits(exponential::C1) - rest * f32::from_bits(exponential::C2));
-    let halved = f32::from_bits((127 - n / 256) * 8388608);
-    f32::from_bits(powers[f]) * p * halved
+    let halfpower = f32::from_bits((127 - n / 256) * 8388608);
+    f32::from_bits(powers[f]) * p * halfpower
 }
 
 // E(d) by a table that the caller has bound.

@@ -105,7 +105,7 @@ module _ (c : Call) (x : Inputs) (limits : InLimits c) (y₀ s₀ : List Float) 
         (ls ∙ scores-by-rows (c .mode) (c .batches * c .qheads * c .qlen) (totalOf c)) (λ b h i p q r. heads-none (c .qheads) b h i));
     long = lw;
     weights = λ l. absurd (omega arith);
-    blind = sym (ap (λ (m : ℕ). countWhere m (maskedNumber c x)) (zero-mul (c .qlen)) ∙ count-start (maskedNumber c x));
+    told = sym (ap (λ (m : ℕ). countWhere m (maskedNumber c x)) (zero-mul (c .qlen)) ∙ count-start (maskedNumber c x));
   }
 
   -- one head more
@@ -125,7 +125,7 @@ module _ (c : Call) (x : Inputs) (limits : InLimits c) (y₀ s₀ : List Float) 
         (λ b h i hb hh hi. heads-more (c .qheads) (c .qlen) n b h i hh hi);
     long = ap length (r .weights) ∙ length-tabulate (totalOf c) _;
     weights = λ k. r .weights ∙ (let e : n ≡ n + 1 - 1 = omega arith in let f : 0 + c .qlen - 1 ≡ c .qlen - 1 = omega arith in λ i. tabulate (totalOf c) (attentionWeight c x (e i / c .qheads) (e i % c .qheads) (f i)));
-    blind = (λ i. d .blind i + r .blind i) ∙ masked-next c x n (limits .qheads-some);
+    told = (λ i. d .told i + r .told i) ∙ masked-next c x n (limits .qheads-some);
   }
 
   -- after the last head
@@ -142,7 +142,7 @@ module _ (c : Call) (x : Inputs) (limits : InLimits c) (y₀ s₀ : List Float) 
         weights =
             d .weights (omega (arith, some-heads))
             ∙ (λ i. tabulate (totalOf c) (attentionWeight c x ((ap (λ (k : ℕ). (k - 1) / c .qheads) e ∙ last-batch (c .batches) (c .qheads) (limits .batches-some) (limits .qheads-some)) i) ((ap (λ (k : ℕ). (k - 1) % c .qheads) e ∙ last-head (c .batches) (c .qheads) (limits .batches-some) (limits .qheads-some)) i) (c .qlen - 1)));
-        blind = d .blind ∙ ap (λ (k : ℕ). countWhere (k * c .qlen) (maskedNumber c x)) e ∙ masked-all c x;
+        told = d .told ∙ ap (λ (k : ℕ). countWhere (k * c .qlen) (maskedNumber c x)) e ∙ masked-all c x;
       }
     where
       some-heads : 1 ≤ c .batches * c .qheads

@@ -26,7 +26,7 @@ pub record HeadsTo (c : Call) (x : Inputs) (y₀ s₀ : List Float) (n : ℕ) (y
   pub scores : s ≡ writtenOf 4 (c .batches) (c .qheads) (c .qlen) (inScores (c .mode) (totalOf c)) (headsBefore (c .qheads) n) (shownAt (c .mode) c x) nan s₀
   pub long : length work ≡ totalOf c
   pub weights : 0 < n → work ≡ tabulate (totalOf c) (attentionWeight c x ((n - 1) / c .qheads) ((n - 1) % c .qheads) (c .qlen - 1))
-  pub blind : masked ≡ countWhere (n * c .qlen) (maskedNumber c x)
+  pub told : masked ≡ countWhere (n * c .qlen) (maskedNumber c x)
 
 -- where the heads before `from` were done, those before `to` are, and r of the rows between are fully masked
 abbrev pub HeadsCarried : Call → Inputs → (from to : ℕ) → (y s work y′ s′ work′ : List Float) → (r : ℕ) → Type 0
@@ -39,4 +39,4 @@ pub record HeadsDone (c : Call) (x : Inputs) (output presentKey presentValue sco
   pub values : presentValue ≡ presentValueTensor c x
   pub shown : scores ≡ scoresTensor c x
   pub weights : work ≡ workRow c x
-  pub blind : masked ≡ maskedRowsOf c x
+  pub told : masked ≡ maskedRowsOf c x

@@ -37,7 +37,7 @@ pub fn heads_between<'a>(
     let mut masked = 0;
     let mut n = from;
     while n < to {
-        let blind = rows_head::head_rows(
+        let inhead = rows_head::head_rows(
             call,
             scale,
             n / heads,
@@ -56,7 +56,7 @@ pub fn heads_between<'a>(
             scores,
             work,
         );
-        masked = masked + blind;
+        masked = masked + inhead;
         n += 1;
     }
     masked

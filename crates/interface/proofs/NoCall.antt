@@ -22,11 +22,11 @@ use Rattle.contents.proofs.Groups.{and-false}
 use Rattle.attention.specs.Outcomes.{outcomeOf}
 use Rattle.attention.specs.Entries.{stepOf}
 use Rattle.attention.proofs.Entries.{step-other}
-use Rattle.interface.specs.Record.{numberOf, scaleOf, codesNamed, rankOf, callOf}
+use Rattle.interface.specs.Record.{numberAt, scaleOf, codesNamed, rankOf, callOf}
 
 -- a record that has not 18 numbers is refusal 1, whatever is lent
 pub wrong-length-refused : (numbers : List ℕ) (scale softcap : Float) (x : Inputs) (y : Outputs) → (length numbers ≡ 18 → ⊥) → verdictOf (callOf numbers scale softcap) x y ≡ Refused Limits
-unfolding verdictOf recordVerdict limitsHold callOf numberOf
+unfolding verdictOf recordVerdict limitsHold callOf numberAt
 wrong-length-refused numbers scale softcap x y h = rw (ne-eqb _ 18 h)
 
 refused-by-third : (a b : Bool) (v w : Verdict) → (unless a Limits then unless b HeadGroups then Refused Settings then v) then w ≡ unless a Limits then unless b HeadGroups then Refused Settings
@@ -36,30 +36,30 @@ refused-by-third false b v w = refl
 
 module _ (numbers : List ℕ) (scale softcap : Float) where
   -- where a code names no form or no mask kind the rank is 0
-  unnamed-rank : codesNamed (numberOf numbers 0) (numberOf numbers 1) ≡ false → callOf numbers scale softcap .rank ≡ 0
+  unnamed-rank : codesNamed (numberAt numbers 0) (numberAt numbers 1) ≡ false → callOf numbers scale softcap .rank ≡ 0
   unfolding callOf rankOf
   unnamed-rank h = rw h
 
   -- where one names no scale kind the scale is a given 0
-  unnamed-scale : 1 < numberOf numbers 2 → callOf numbers scale softcap .scale ≡ Given plusZero
+  unnamed-scale : 1 < numberAt numbers 2 → callOf numbers scale softcap .scale ≡ Given plusZero
   unfolding callOf scaleOf
-  unnamed-scale h = rw (ne-eqb (numberOf numbers 2) 0 (λ e. omega arith), ne-eqb (numberOf numbers 2) 1 (λ e. omega arith))
+  unnamed-scale h = rw (ne-eqb (numberAt numbers 2) 0 (λ e. omega arith), ne-eqb (numberAt numbers 2) 1 (λ e. omega arith))
 
   -- where a code names nothing the settings do not hold
-  rank-fails : codesNamed (numberOf numbers 0) (numberOf numbers 1) ≡ false → settingsHold (callOf numbers scale softcap) ≡ false
+  rank-fails : codesNamed (numberAt numbers 0) (numberAt numbers 1) ≡ false → settingsHold (callOf numbers scale softcap) ≡ false
   unfolding settingsHold
   rank-fails h = rw (unnamed-rank h)
 
-  scale-fails : 1 < numberOf numbers 2 → settingsHold (callOf numbers scale softcap) ≡ false
+  scale-fails : 1 < numberAt numbers 2 → settingsHold (callOf numbers scale softcap) ≡ false
   unfolding settingsHold
   scale-fails h = rw (unnamed-scale h, and-false)
 
 -- a record that has not 18 numbers, or with such a code, is not of the step profile
 wrong-length-profile : (numbers : List ℕ) (scale softcap : Float) → (length numbers ≡ 18 → ⊥) → profileHolds (callOf numbers scale softcap) ≡ false
-unfolding profileHolds callOf numberOf
+unfolding profileHolds callOf numberAt
 wrong-length-profile numbers scale softcap h = rw (ne-eqb _ 18 h)
 
-unnamed-profile : (numbers : List ℕ) (scale softcap : Float) → codesNamed (numberOf numbers 0) (numberOf numbers 1) ≡ false → profileHolds (callOf numbers scale softcap) ≡ false
+unnamed-profile : (numbers : List ℕ) (scale softcap : Float) → codesNamed (numberAt numbers 0) (numberAt numbers 1) ≡ false → profileHolds (callOf numbers scale softcap) ≡ false
 unfolding profileHolds
 unnamed-profile numbers scale softcap h = rw (unnamed-rank numbers scale softcap h, and-false)
 
@@ -74,15 +74,15 @@ ByThird numbers scale softcap x y = verdictOf (callOf numbers scale softcap) x y
 
 module _ (numbers : List ℕ) (scale softcap : Float) (x : Inputs) (y : Outputs) where
   -- a code that names no form, no mask kind or no scale kind is refusal 3 where neither 1 nor 2 applies, whatever is lent
-  pub unnamed-refused : codesNamed (numberOf numbers 0) (numberOf numbers 1) ≡ false → ByThird numbers scale softcap x y
+  pub unnamed-refused : codesNamed (numberAt numbers 0) (numberAt numbers 1) ≡ false → ByThird numbers scale softcap x y
   unnamed-refused h = refused-by-settings (callOf numbers scale softcap) x y (rank-fails numbers scale softcap h)
 
-  pub unnamed-scale-refused : 1 < numberOf numbers 2 → ByThird numbers scale softcap x y
+  pub unnamed-scale-refused : 1 < numberAt numbers 2 → ByThird numbers scale softcap x y
   unnamed-scale-refused h = refused-by-settings (callOf numbers scale softcap) x y (scale-fails numbers scale softcap h)
 
   -- at the step entry a record that has not 18 numbers, or a code that names no form or no mask kind, is refusal 10
   pub wrong-length-other : (length numbers ≡ 18 → ⊥) → stepOf (callOf numbers scale softcap) x y ≡ outcomeOf (NotDone Profile) y
   wrong-length-other h = step-other (callOf numbers scale softcap) x y (wrong-length-profile numbers scale softcap h)
 
-  pub unnamed-other : codesNamed (numberOf numbers 0) (numberOf numbers 1) ≡ false → stepOf (callOf numbers scale softcap) x y ≡ outcomeOf (NotDone Profile) y
+  pub unnamed-other : codesNamed (numberAt numbers 0) (numberAt numbers 1) ≡ false → stepOf (callOf numbers scale softcap) x y ≡ outcomeOf (NotDone Profile) y
   unnamed-other h = step-other (callOf numbers scale softcap) x y (unnamed-profile numbers scale softcap h)

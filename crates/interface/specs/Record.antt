@@ -18,8 +18,8 @@ use Rattle.call.specs.declared.ScoreMode.{ScoreMode}
 use Rattle.call.specs.declared.ScoreMode.the-variants.{NoScores, Mode}
 
 -- number i of a record; a record that has not 18 numbers is read as one of zeros
-unfoldable pub numberOf : List ℕ → ℕ → ℕ
-numberOf numbers i = cond (eqb (length numbers) 18) (getD numbers i 0) 0
+unfoldable pub numberAt : List ℕ → ℕ → ℕ
+numberAt numbers i = cond (eqb (length numbers) 18) (getD numbers i 0) 0
 
 -- 0 plain, 1 cached, 2 counted; a code that names no form is read as cached, which allows a past
 unfoldable pub formOf : ℕ → Form
@@ -47,8 +47,8 @@ unfolding codesNamed
 rankOf form mask rank = cond (codesNamed form mask) rank 0
 
 unfoldable pub callOf : List ℕ → (scale softcap : Float) → Call
-unfolding numberOf formOf maskKindOf scaleOf modeOf rankOf
-callOf numbers scale softcap = let n = numberOf numbers in record {
+unfolding numberAt formOf maskKindOf scaleOf modeOf rankOf
+callOf numbers scale softcap = let n = numberAt numbers in record {
   form = formOf (n 0);
   mask = maskKindOf (n 1);
   scale = scaleOf (n 2) scale;

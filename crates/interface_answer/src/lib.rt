@@ -1,6 +1,6 @@
 // A refusal and an answer as numbers. Every function takes any of them.
 ghost use mathlib.Core.Path.{_≡_};
-ghost use Rattle.call.specs.Answers.{numberOf, tensorOf, placeOf, reportOf};
+ghost use Rattle.call.specs.Answers.{numberOf, faultTensorOf, placeOf, reportOf};
 ghost use Rattle.interface.specs.Report.{reportIn};
 use call::Answer;
 use call::Refusal;
@@ -29,8 +29,8 @@ pub fn number_of(refusal: Refusal) -> u32
     }
 }
 
-fn tensor_of(refusal: Refusal) -> u64
-    ensures { λ r. ⌜ r ≡ tensorOf refusal ⌝ }
+fn fault_tensor_of(refusal: Refusal) -> u64
+    ensures { λ r. ⌜ r ≡ faultTensorOf refusal ⌝ }
 {
     match refusal {
         Refusal::Limits => 0,
@@ -82,7 +82,7 @@ pub fn report(answer: Answer) -> Numbers
         },
         Answer::NotDone(refusal) => Numbers {
             number: number_of(refusal),
-            tensor: tensor_of(refusal),
+            tensor: fault_tensor_of(refusal),
             index: place_of(refusal),
             total: 0,
             masked: 0,

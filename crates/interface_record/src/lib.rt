@@ -1,6 +1,6 @@
 // A call record from its numbers. `decode` takes any numbers.
 ghost use mathlib.Core.Path.{_≡_};
-ghost use Rattle.interface.specs.Record.{numberOf, formOf, maskKindOf, scaleOf, modeOf, rankOf, callOf};
+ghost use Rattle.interface.specs.Record.{numberAt, formOf, maskKindOf, scaleOf, modeOf, rankOf, callOf};
 use call::Call;
 use call::Form;
 use call::MaskKind;
@@ -9,7 +9,7 @@ use call::ScoreMode;
 
 // A number of the record, which is 0 in a record that has not 18 numbers.
 fn number(numbers: &[u64], at: usize) -> usize
-    ensures { λ r. ⌜ r ≡ numberOf (now (numbers .entry)) at ⌝ }
+    ensures { λ r. ⌜ r ≡ numberAt (now (numbers .entry)) at ⌝ }
 {
     if numbers.len() != 18 {
         return 0;

@@ -54,16 +54,16 @@ rowBytes-small (x ∷ xs) h k =
 -- ---- what was written is read again
 
 pub u16-written : (n : ℕ) → n < 65536 → (p q : List ℕ) → u16At (p ++ (u16Bytes n ++ q)) (length p) ≡ n
-u16-written n h p q = behind u16At u16At-drop p (u16Bytes n ++ q) ∙ joined
+u16-written n h p q = behind u16At u16At-drop p (u16Bytes n ++ q) ∙ read-back
   where
-    joined : u16At (u16Bytes n ++ q) 0 ≡ n
-    joined = omega arith
+    read-back : u16At (u16Bytes n ++ q) 0 ≡ n
+    read-back = omega arith
 
 pub u32-written : (n : ℕ) → n < 4294967296 → (p q : List ℕ) → u32At (p ++ (u32Bytes n ++ q)) (length p) ≡ n
-u32-written n h p q = behind u32At u32At-drop p (u32Bytes n ++ q) ∙ joined
+u32-written n h p q = behind u32At u32At-drop p (u32Bytes n ++ q) ∙ read-back
   where
-    joined : u32At (u32Bytes n ++ q) 0 ≡ n
-    joined = omega arith
+    read-back : u32At (u32Bytes n ++ q) 0 ≡ n
+    read-back = omega arith
 
 pub f32-written : (x : Float) → T (fits binary32 x) → (p q : List ℕ) → f32At (p ++ (f32Bytes x ++ q)) (length p) ≡ x
 unfolding f32At f32Bytes

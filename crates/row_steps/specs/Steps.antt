@@ -8,7 +8,7 @@ use lib.ListN.{length, getD, replicate}
 use lib.Ieee.{Float, binary32, add}
 use Rattle.tensor_laws.specs.Layout.{tabulate}
 use Rattle.exponential.specs.ExpNeg.{plusZero}
-use Rattle.softmax.specs.Lists.{elementOf, hidden, softmaxRowOf, maskedRowOf}
+use Rattle.softmax.specs.Lists.{elementOf, hidden, softmaxRowOf, fullyMaskedRowOf}
 use Rattle.softmax.specs.Cap.{cappedRowWhere}
 use Rattle.call.specs.declared.Call.{Call}
 use Rattle.call.specs.declared.MaskKind.{MaskKind}
@@ -74,7 +74,7 @@ pub record CapDone (mode : ScoreMode) (softcap : Float) (masked shown₀ shown r
   pub shows : shown ≡ shownWhere (showsOf mode 2 2) hidden (cappedRowWhere softcap masked) (shownWhere (showsOf mode 1 1) hidden masked shown₀)
 
 -- Steps 2 to 4 leave the weights of the scores under the mask and the cap and +0 behind them, n elements in all, and tell whether the scores are fully masked; mode 3 shows the weights.
-pub record SoftmaxDone (mode : ScoreMode) (softcap : Float) (masked shown₀ : List Float) (n : ℕ) (shown work : List Float) (blind : Bool) : Type 0 where
+pub record SoftmaxDone (mode : ScoreMode) (softcap : Float) (masked shown₀ : List Float) (n : ℕ) (shown work : List Float) (fully : Bool) : Type 0 where
   pub weights : work ≡ paddedTo n plusZero (softmaxRowOf (cappedRowWhere softcap masked))
-  pub told : blind ≡ maskedRowOf (cappedRowWhere softcap masked)
+  pub told : fully ≡ fullyMaskedRowOf (cappedRowWhere softcap masked)
   pub shows : shown ≡ shownWhere (showsOf mode 3 3) plusZero work (shownWhere (showsOf mode 2 2) hidden (cappedRowWhere softcap masked) (shownWhere (showsOf mode 1 1) hidden masked shown₀))

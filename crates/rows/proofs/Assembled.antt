@@ -13,7 +13,7 @@ use Rattle.tensor_laws.specs.Layout.{slot, tabulate}
 use Rattle.tensor_laws.proofs.Tabulate.{length-tabulate, getD-tabulate, tabulate-ext, take-tabulate}
 use Rattle.exponential.specs.ExpNeg.{plusZero}
 use Rattle.softmax.specs.Row.{scoreOf}
-use Rattle.softmax.specs.Lists.{elementOf, hidden, isScoreRow, softmaxRowOf, maskedRowOf}
+use Rattle.softmax.specs.Lists.{elementOf, hidden, isScoreRow, softmaxRowOf, fullyMaskedRowOf}
 use Rattle.softmax.specs.Cap.{cappedRowWhere}
 use Rattle.softmax.proofs.Structure.{agree-score}
 use Rattle.softmax.proofs.Cap.{capped-marked}
@@ -152,5 +152,5 @@ module _ {c : Call} {x : Inputs} {scale : Float} (r : Accepting c x scale) (fit 
             ∙ marks-output (accepts r) fit b h i hb hh hi (take n work) weight-at;
         scores = shown-are;
         weights = weights-are;
-        blind = t .told ∙ ap maskedRowOf capped-is ∙ marks-masked (accepts r) fit b h i hb hh hi;
+        told = t .told ∙ ap fullyMaskedRowOf capped-is ∙ marks-masked (accepts r) fit b h i hb hh hi;
       }

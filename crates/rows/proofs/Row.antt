@@ -16,7 +16,7 @@ use Rattle.tensor_laws.specs.Layout.{tabulate}
 use Rattle.tensor_laws.proofs.Tabulate.{length-tabulate, getD-tabulate, tabulate-ext}
 use Rattle.exponential.specs.ExpNeg.{plusZero}
 use Rattle.softmax.specs.Row.{weightOf}
-use Rattle.softmax.specs.Lists.{elementOf, hidden, isHidden, softmaxRowOf, maskedRowOf, isScoreRow}
+use Rattle.softmax.specs.Lists.{elementOf, hidden, isHidden, softmaxRowOf, fullyMaskedRowOf, isScoreRow}
 use Rattle.softmax.proofs.Structure.{cut-masked, cut-weight, cut-output, row-output, hidden-weight-zero}
 use Rattle.softmax.proofs.Scores.{isScore}
 use Rattle.softmax.proofs.Positions.{tabulated-scores, marked-masked, marked-weights}
@@ -123,7 +123,7 @@ module _ {c : Call} {x : Inputs} {y : Outputs} (a : Accepts c x y) (fit : MaskFi
   marks-scores = tabulated-scores (visible a b h i hb hh hi) mark (λ j l. mark-score j)
 
   -- the row is fully masked where that row of scores is
-  pub marks-masked : maskedRowOf marks ≡ rowMasked c x b h i
+  pub marks-masked : fullyMaskedRowOf marks ≡ rowMasked c x b h i
   unfolding rowMasked n
   marks-masked =
       marked-masked n mark (admits c x b h i) (cappedScore c x b h i) (λ j l. mark-seen j) (λ j l e. mark-is j e)

@@ -81,7 +81,7 @@ module _ (c : Call) (x : Inputs) (b h first count : ℕ) (hb : b < c .batches) (
     pub scores : s ≡ writtenOf 4 (c .batches) (c .qheads) (c .qlen) (inScores (c .mode) (totalOf c)) (isUnitRow b h first (i - first)) (shownAt (c .mode) c x) nan s₀
     pub long : length work ≡ totalOf c
     pub weights : first < i → work ≡ tabulate (totalOf c) (attentionWeight c x b h (i - 1))
-    pub blind : masked ≡ countWhere (i - first) (λ n. rowMasked c x b h (first + n))
+    pub told : masked ≡ countWhere (i - first) (λ n. rowMasked c x b h (first + n))
 
   -- before the first row
   pub begun : (work : List Float) → length y₀ ≡ outputLength c → length s₀ ≡ scoresLength c → length work ≡ totalOf c → Done first y₀ s₀ work 0
@@ -100,7 +100,7 @@ module _ (c : Call) (x : Inputs) (b h first count : ℕ) (hb : b < c .batches) (
             ∙ ap (λ (n : ℕ). writtenOf 4 (c .batches) (c .qheads) (c .qlen) (inScores (c .mode) (totalOf c)) (isUnitRow b h first n) (shownAt (c .mode) c x) nan s₀) (sym z);
         long = lw;
         weights = λ l. absurd (omega arith);
-        blind = sym (ap (λ (n : ℕ). countWhere n (λ n. rowMasked c x b h (first + n))) z ∙ count-start (λ n. rowMasked c x b h (first + n)));
+        told = sym (ap (λ (n : ℕ). countWhere n (λ n. rowMasked c x b h (first + n))) z ∙ count-start (λ n. rowMasked c x b h (first + n)));
       }
 
   -- one row more
@@ -124,8 +124,8 @@ module _ (c : Call) (x : Inputs) (b h first count : ℕ) (hb : b < c .batches) (
           (unit-same b h first i (d .low)) (λ b' h' i' p q w e. unit-other b h first i (d .low) 4 (c .qheads) (c .qlen) b' h' i' e) sa m es em;
       long = ap length (r .weights) ∙ length-tabulate (totalOf c) (attentionWeight c x b h i);
       weights = λ e. r .weights ∙ ap (λ (n : ℕ). tabulate (totalOf c) (attentionWeight c x b h n)) (omega arith);
-      blind =
-          (λ j. d .blind j + tally (r .blind j))
+      told =
+          (λ j. d .told j + tally (r .told j))
           ∙ ap (λ (n : ℕ). countWhere (i - first) (λ n. rowMasked c x b h (first + n)) + tally (rowMasked c x b h n)) (omega (arith, d .low))
           ∙ sym (count-next (i - first) (λ n. rowMasked c x b h (first + n)))
           ∙ ap (λ (n : ℕ). countWhere n (λ n. rowMasked c x b h (first + n))) (omega (arith, d .low));
@@ -139,7 +139,7 @@ module _ (c : Call) (x : Inputs) (b h first count : ℕ) (hb : b < c .batches) (
         output = d .output ∙ ap (λ (n : ℕ). writtenOf (c .rank) (c .batches) (c .qheads) (c .qlen) (c .vsize) (isUnitRow b h first n) (attentionOutput c x) nan y₀) e;
         scores = d .scores ∙ ap (λ (n : ℕ). writtenOf 4 (c .batches) (c .qheads) (c .qlen) (inScores (c .mode) (totalOf c)) (isUnitRow b h first n) (shownAt (c .mode) c x) nan s₀) e;
         weights = d .weights (omega (arith, d .high)) ∙ ap (λ (n : ℕ). tabulate (totalOf c) (attentionWeight c x b h n)) (omega (arith, d .high));
-        blind = d .blind ∙ ap (λ (n : ℕ). countWhere n (λ n. rowMasked c x b h (first + n))) e;
+        told = d .told ∙ ap (λ (n : ℕ). countWhere n (λ n. rowMasked c x b h (first + n))) e;
       }
 
   -- the tensors keep their lengths

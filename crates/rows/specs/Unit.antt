@@ -42,11 +42,11 @@ pub record RowDone (c : Call) (x : Inputs) (b h i : ℕ) (out shown work : List 
   pub output : out ≡ tabulate (c .vsize) (attentionOutput c x b h i)
   pub scores : shown ≡ tabulate (inScores (c .mode) (totalOf c)) (shownAt (c .mode) c x b h i)
   pub weights : work ≡ tabulate (totalOf c) (attentionWeight c x b h i)
-  pub blind : masked ≡ rowMasked c x b h i
+  pub told : masked ≡ rowMasked c x b h i
 
 -- the rows of the unit are the formula's in Y and in the scores, and every other row is as it came in (y₀, s₀); the scratch row holds the weights of the unit's last row; masked is the number of its rows that are fully masked
 pub record HeadDone (c : Call) (x : Inputs) (b h first count : ℕ) (y₀ s₀ y s work : List Float) (masked : ℕ) : Type 0 where
   pub output : y ≡ writtenOf (c .rank) (c .batches) (c .qheads) (c .qlen) (c .vsize) (isUnitRow b h first count) (attentionOutput c x) nan y₀
   pub scores : s ≡ writtenOf 4 (c .batches) (c .qheads) (c .qlen) (inScores (c .mode) (totalOf c)) (isUnitRow b h first count) (shownAt (c .mode) c x) nan s₀
   pub weights : work ≡ tabulate (totalOf c) (attentionWeight c x b h (first + count - 1))
-  pub blind : masked ≡ countWhere count (λ n. rowMasked c x b h (first + n))
+  pub told : masked ≡ countWhere count (λ n. rowMasked c x b h (first + n))

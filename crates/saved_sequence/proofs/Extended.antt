@@ -18,7 +18,7 @@ use Rattle.session_file.specs.declared.Reading.{Reading}
 use Rattle.session_file.specs.declared.Reading.the-variants.{SessionRead, NotRead}
 use Rattle.session_file.specs.Form.{Session, sessionOf}
 use Rattle.session_file.specs.Reader.{sessionAt}
-use Rattle.session_laws.specs.Sessions.{cacheCell, cacheOf, cellBehind, firstOf, bothOf}
+use Rattle.session_laws.specs.Sessions.{cacheCell, cacheOf, cellBehind, firstPositions, bothOf}
 use Rattle.session_laws.specs.Statements.{wholeIn}
 use Rattle.session_laws.proofs.Caches.{cache-of-cells}
 use Rattle.session_laws.proofs.Saved.{read-holds}
@@ -26,7 +26,7 @@ use Rattle.session_laws.proofs.Appended.{append-holds}
 use Rattle.sequence.specs.Positions.{Position, nowhere, positionOf, keyCache, valueCache}
 use Rattle.sequence.proofs.Places.{position-old}
 use Rattle.sequence.proofs.Step.{key-cache-length, value-cache-length, key-cache-cell, value-cache-cell}
-use Rattle.saved_sequence.specs.Resumed.{sizesFor, historySession, Holds, AppendExtends}
+use Rattle.saved_sequence.specs.Resumed.{sizesFor, historySession, FileHolds, AppendExtends}
 
 -- ---- the cache of two histories, over keys and values alike
 
@@ -91,15 +91,15 @@ both-history s history ps =
     λ i. sessionOf (sizesFor s) (sym (length-append history ps) i) (keys i) (values i)
 
 -- the session of the first n positions of a history
-first-history : (s : Call) (history : List Position) (n : ℕ) → n ≤ length history → firstOf (historySession s history) n ≡ historySession s (take n history)
-unfolding firstOf historySession
+first-history : (s : Call) (history : List Position) (n : ℕ) → n ≤ length history → firstPositions (historySession s history) n ≡ historySession s (take n history)
+unfolding firstPositions historySession
 first-history s history n l =
     let keys = first-cache (s .batches) (s .kvheads) (s .size) (λ p. p .key) (keyCache s) (key-cache-length s) (key-cache-cell s) history n l in
     let values = first-cache (s .batches) (s .kvheads) (s .vsize) (λ p. p .value) (valueCache s) (value-cache-length s) (value-cache-cell s) history n l in
     λ i. sessionOf (sizesFor s) (sym (length-take-le n history l) i) (keys i) (values i)
 
 -- a cut leaves the positions that are whole in it
-pub cut-holds : (s : Call) (file : List ℕ) (history : List Position) (c : ℕ) → Holds s file history → 14 ≤ c → c ≤ length file → Holds s (take c file) (take (wholeIn (sizesFor s) c) history)
+pub cut-holds : (s : Call) (file : List ℕ) (history : List Position) (c : ℕ) → FileHolds s file history → 14 ≤ c → c ≤ length file → FileHolds s (take c file) (take (wholeIn (sizesFor s) c) history)
 cut-holds s file history c h l inside =
     let z = sizesFor s in
     let k = wholeIn z c in
@@ -110,7 +110,7 @@ cut-holds s file history c h l inside =
       session =
           ap (sessionAt z (take c file)) e
           ∙ x .same c l inside
-          ∙ ap (λ (y : Session). firstOf y k) (h .session)
+          ∙ ap (λ (y : Session). firstPositions y k) (h .session)
           ∙ first-history s history k (x .fewer c l inside);
     }
 

@@ -16,7 +16,7 @@ use Rattle.session_laws.proofs.Saved.{saved-holds}
 use Rattle.sequence.specs.Positions.{Position}
 use Rattle.sequence.specs.Chunks.{entryRun, Chunk, State, start, chunkOutcome, stateAfter, historyAfter}
 use Rattle.sequence.proofs.Kept.{kept-start, kept-after, next, history-append}
-use Rattle.saved_sequence.specs.Resumed.{sizesFor, stateIn, historySession, Holds, resumed, ChunksFit, Resumes}
+use Rattle.saved_sequence.specs.Resumed.{sizesFor, stateIn, historySession, FileHolds, resumed, ChunksFit, Resumes}
 use Rattle.saved_sequence.proofs.Saved.{after-savable}
 
 -- the state after two sequences is that after the second, from where the first leads
@@ -37,7 +37,7 @@ module _ (s : Call) (chunks : List Chunk) where
   unfolding historySession
   state-is = sym (kept-after s start [] chunks (kept-start s) .state)
 
-  module _ (file : List ℕ) (h : Holds s file history) where
+  module _ (file : List ℕ) (h : FileHolds s file history) where
     state-back : resumed s file (length history) ≡ st
     unfolding resumed
     state-back = ap stateIn (h .session) ∙ state-is
@@ -60,6 +60,6 @@ module _ (s : Call) (chunks : List Chunk) where
     }
 
   -- the file of the history is one
-  pub file-holds : sizesHold (sizesFor s) ≡ true → ChunksFit chunks → Holds s (fileOf (historySession s history)) history
+  pub file-holds : sizesHold (sizesFor s) ≡ true → ChunksFit chunks → FileHolds s (fileOf (historySession s history)) history
   unfolding historySession
   file-holds limits c = let h = saved-holds (historySession s history) (after-savable s chunks limits c) in record { reads = h .reads; session = h .same }

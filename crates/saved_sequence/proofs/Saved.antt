@@ -16,7 +16,7 @@ use Rattle.session_file.specs.Sizes.{sizesHold}
 use Rattle.session_laws.specs.Sessions.{AllWithin, Savable}
 use Rattle.session_laws.specs.Statements.{AllFit}
 use Rattle.sequence.specs.Positions.{Position, nowhere, positionOf, keyCache, valueCache}
-use Rattle.sequence.specs.Chunks.{entryRun, Chunk, State, start, lengthOf, positionsOf, entered, joined, historyNext, historyAfter}
+use Rattle.sequence.specs.Chunks.{entryRun, Chunk, State, start, lengthOf, positionsOf, entered, historyWhere, historyNext, historyAfter}
 use Rattle.sequence.proofs.Places.{AllGood, chunkPosition, below-or-past, position-old}
 use Rattle.sequence.proofs.Plain.{PlainGood}
 use Rattle.sequence.proofs.Step.{key-cache-length, value-cache-length, key-cache-cell, value-cache-cell}
@@ -62,7 +62,7 @@ next-fits : (s : Call) (st : State) (history : List Position) (r : Chunk) → Al
 unfolding historyNext
 next-fits s st history r kf vf hf = go (entered s st history r)
   where
-    go : (b : Bool) → HistoryFits (joined b history (positionsOf s r))
+    go : (b : Bool) → HistoryFits (historyWhere b history (positionsOf s r))
     go true = both-fit history (positionsOf s r) hf (chunk-fits s r kf vf)
     go false = hf
 

@@ -15,7 +15,7 @@ use Rattle.session_laws.proofs.Passed.{isSaved}
 use Rattle.session_laws.proofs.Kept.{append-keeps}
 use Rattle.sequence.specs.Positions.{Position, keyCache, valueCache}
 use Rattle.sequence.proofs.Step.{key-cache-length, value-cache-length}
-use Rattle.saved_sequence.specs.Resumed.{sizesFor, historySession, Holds, SavedBy, begun, added, refused, cut, SavedResumes}
+use Rattle.saved_sequence.specs.Resumed.{sizesFor, historySession, FileHolds, SavedBy, begun, added, refused, cut, SavedResumes}
 use Rattle.saved_sequence.proofs.Resumed.{resumes}
 use Rattle.saved_sequence.proofs.Extended.{append-extends, cut-holds}
 
@@ -27,17 +27,17 @@ no-history s =
     let values = none-long (valueCache s []) (value-cache-length s [] ∙ no-cells (s .batches * s .kvheads) (s .vsize)) in
     λ i. sessionOf (sizesFor s) 0 (keys i) (values i)
 
-begun-holds : (s : Call) (buffer left : List ℕ) (m u : ℕ) → beginOf buffer (sizesFor s) ≡ written (Saved m u) left → Holds s (take u left) []
+begun-holds : (s : Call) (buffer left : List ℕ) (m u : ℕ) → beginOf buffer (sizesFor s) ≡ written (Saved m u) left → FileHolds s (take u left) []
 begun-holds s buffer left m u e =
     let x = begin-holds buffer (sizesFor s) m u left e in
     record { reads = x .reads; session = x .session ∙ sym (no-history s) }
 
-pub saved→holds : (s : Call) (file : List ℕ) (history : List Position) → SavedBy s file history → Holds s file history
+pub saved→holds : (s : Call) (file : List ℕ) (history : List Position) → SavedBy s file history → FileHolds s file history
 saved→holds s file history (begun buffer left m u e) = begun-holds s buffer left m u e
 saved→holds s file history (added buffer left used m u old ps b kf vf e) = append-extends s old ps buffer used m u left kf vf (saved→holds s (take used buffer) old b) e
 saved→holds s file history (refused buffer left used count keys values r old b e) =
     let same : left ≡ buffer = sym (ap (λ (w : Written). w .buffer) e) ∙ append-keeps buffer used count keys values (ap (λ (w : Written). isSaved (w .answer)) e) in
-    subst (λ (x : List ℕ). Holds s (take used x) old) (sym same) (saved→holds s (take used buffer) old b)
+    subst (λ (x : List ℕ). FileHolds s (take used x) old) (sym same) (saved→holds s (take used buffer) old b)
 saved→holds s file history (cut whole c old b l inside) = cut-holds s whole old c (saved→holds s whole old b) l inside
 
 -- begun, added to, cut, loaded and continued
@@ -47,5 +47,5 @@ saved-resumes s file history b =
     record {
       holds = h;
       kept = λ c n l. take-take n _ history (whole-least (sizesFor s) n c l);
-      resumes = λ chunks e. resumes s chunks file (subst (Holds s file) (sym e) h);
+      resumes = λ chunks e. resumes s chunks file (subst (FileHolds s file) (sym e) h);
     }

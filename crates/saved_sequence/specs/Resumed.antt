@@ -10,7 +10,7 @@ use Rattle.call.specs.declared.Call.{Call}
 use Rattle.session_file.specs.declared.Sizes.{Sizes}
 use Rattle.session_file.specs.declared.Reading.the-variants.{SessionRead}
 use Rattle.session_file.specs.declared.Saving.the-variants.{Saved, NotSaved}
-use Rattle.session_file.specs.Sizes.{positionAt}
+use Rattle.session_file.specs.Sizes.{recordStart}
 use Rattle.session_file.specs.Form.{Session, sessionOf}
 use Rattle.session_file.specs.Reader.{readOf, sessionAt, cachesFit, loaded, loadOf}
 use Rattle.session_file.specs.Writer.{written, beginOf, appendOf}
@@ -32,7 +32,7 @@ unfolding keyCache valueCache
 historySession s history = sessionOf (sizesFor s) (length history) (keyCache s history) (valueCache s history)
 
 -- A file holds a history: the reader gives as many positions of those sizes, and what stands in them is the history's.
-pub record Holds (s : Call) (file : List ℕ) (history : List Position) : Type 0 where
+pub record FileHolds (s : Call) (file : List ℕ) (history : List Position) : Type 0 where
   pub reads : readOf file ≡ SessionRead (sizesFor s) (length history)
   pub session : sessionAt (sizesFor s) file (length history) ≡ historySession s history
 
@@ -77,9 +77,9 @@ pub data SavedBy (s : Call) : List ℕ → List Position → Type 0 where
 
 -- What holds of such a file.
 pub record SavedResumes (s : Call) (file : List ℕ) (history : List Position) : Type 0 where
-  pub holds : Holds s file history
+  pub holds : FileHolds s file history
   -- a cut behind the last byte of the first n positions loses none of them
-  pub kept : (c n : ℕ) → positionAt (sizesFor s) n ≤ c → take n (take (wholeIn (sizesFor s) c) history) ≡ take n history
+  pub kept : (c n : ℕ) → recordStart (sizesFor s) n ≤ c → take n (take (wholeIn (sizesFor s) c) history) ≡ take n history
   -- where the history is that of some chunks, a load and every later chunk go on from there
   pub resumes : (chunks : List Chunk) → historyAfter entryRun s start [] chunks ≡ history → Resumes s chunks file
 
@@ -89,6 +89,6 @@ AppendExtends s history ps =
     (buffer : List ℕ) (used m u : ℕ) (left : List ℕ)
     → AllFit (keyCache s ps)
     → AllFit (valueCache s ps)
-    → Holds s (take used buffer) history
+    → FileHolds s (take used buffer) history
     → appendOf buffer used (length ps) (keyCache s ps) (valueCache s ps) ≡ written (Saved m u) left
-    → Holds s (take u left) (history ++ ps)
+    → FileHolds s (take u left) (history ++ ps)

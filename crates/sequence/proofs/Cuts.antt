@@ -12,7 +12,7 @@ use Rattle.call.proofs.Facts.{groups-same, settings-same, fit→lengths, length
 use Rattle.sequence.specs.Positions.{Position, plainCall}
 use Rattle.sequence.specs.Chunks.{entryRun, Chunk, start, lengthOf, lentOf, chunkCall, chunkInputs, chunkOutcome, positionsOf, plainAccepted, entered, isDone}
 use Rattle.sequence.specs.Cuts.{cachesFor, fitsAfter, allFit, allPositions, allAccepted, CutHolds}
-use Rattle.sequence.proofs.Places.{stateOf, AllGood, good-before, length-joined}
+use Rattle.sequence.proofs.Places.{stateOf, AllGood, good-before, length-with-chunk}
 use Rattle.sequence.proofs.Plain.{split, both, PlainGood, plain→good, good→plain}
 use Rattle.sequence.proofs.Step.{key-cache-length, value-cache-length, fits→entered, entered→plain}
 use Rattle.sequence.proofs.Kept.{next, state-entered, kept-start}
@@ -63,7 +63,7 @@ unfolding allFit allPositions allAccepted
 plain→all s history [] good fit p = refl
 plain→all s history (r ∷ rs) good fit p =
     let f = split (fitsAfter s (length history) r) (allFit s (length history + lengthOf r) rs) fit in
-    let n = length-joined s r history in
+    let n = length-with-chunk s r history in
     let w : PlainGood s (history ++ positionsOf s r ++ allPositions s rs) = subst (PlainGood s) (sym (append-assoc history (positionsOf s r) (allPositions s rs))) p in
     let q = plain-before s (history ++ positionsOf s r) (allPositions s rs) (omega arith) w in
     let e = fits-entered s history r (f .0) q in

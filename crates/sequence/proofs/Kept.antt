@@ -9,8 +9,8 @@ use Rattle.tensor_laws.proofs.Tabulate.{none-long}
 use Rattle.call.specs.declared.Call.{Call}
 use Rattle.attention.specs.Outcomes.{acceptedOf}
 use Rattle.sequence.specs.Positions.{Position, keyCache, valueCache}
-use Rattle.sequence.specs.Chunks.{entryRun, Chunk, State, start, chunkCall, chunkInputs, chunkOutcome, nextState, stateAfter, positionsOf, entered, joined, historyNext, historyAfter}
-use Rattle.sequence.proofs.Places.{stateOf, AllGood, length-joined}
+use Rattle.sequence.specs.Chunks.{entryRun, Chunk, State, start, chunkCall, chunkInputs, chunkOutcome, nextState, stateAfter, positionsOf, entered, historyWhere, historyNext, historyAfter}
+use Rattle.sequence.proofs.Places.{stateOf, AllGood, length-with-chunk}
 use Rattle.sequence.proofs.Plain.{PlainGood}
 use Rattle.sequence.proofs.Refusing.{state-stays}
 use Rattle.sequence.proofs.Step.{key-cache-length, value-cache-length, entered→plain, entered-outcome, other-outcome}
@@ -32,11 +32,11 @@ module _ (s : Call) (st : State) (history : List Position) (r : Chunk) where
   -- an entered chunk's positions are added to the history
   pub history-entered : entered s st history r ≡ true → historyNext s st history r ≡ history ++ positionsOf s r
   unfolding historyNext
-  history-entered e = ap (λ t. joined t history (positionsOf s r)) e
+  history-entered e = ap (λ t. historyWhere t history (positionsOf s r)) e
 
   history-other : entered s st history r ≡ false → historyNext s st history r ≡ history
   unfolding historyNext
-  history-other e = ap (λ t. joined t history (positionsOf s r)) e
+  history-other e = ap (λ t. historyWhere t history (positionsOf s r)) e
 
   history-next-extends : (more : List Position) × (historyNext s st history r ≡ history ++ more)
   history-next-extends = go (entered s st history r) refl
@@ -53,7 +53,7 @@ module _ (s : Call) (history : List Position) (r : Chunk) where
       let o = acceptedOf (chunkCall s (length history) r) (chunkInputs (stateOf s history) r) in
       ap (λ o. nextState (o .answer) (stateOf s history) (o .tensors)) (entered-outcome s history r e)
       ∙ ap (λ a. nextState a (stateOf s history) (o .tensors)) (chunk-answer s history r)
-      ∙ (λ i. record { past = sym (length-joined s r history) i; key = chunk-present-keys s history r i; value = chunk-present-values s history r i })
+      ∙ (λ i. record { past = sym (length-with-chunk s r history) i; key = chunk-present-keys s history r i; value = chunk-present-values s history r i })
 
   state-other : AllGood s history → entered s (stateOf s history) history r ≡ false → next s (stateOf s history) r ≡ stateOf s history
   unfolding chunkOutcome

@@ -27,7 +27,7 @@ use Rattle.attention.proofs.Outcome.{accepted-answer, accepted-present-key, acc
 use Rattle.attention.proofs.Causal.{scale-same, causal-output, causal-none-masked}
 use Rattle.sequence.specs.Positions.{Position, positionOf, causalCall, plainCall, plainInputs, keyCache, valueCache}
 use Rattle.sequence.specs.Chunks.{Chunk, lengthOf, chunkCall, chunkInputs, positionsOf}
-use Rattle.sequence.proofs.Places.{stateOf, length-joined}
+use Rattle.sequence.proofs.Places.{stateOf, length-with-chunk}
 use Rattle.sequence.proofs.Plain.{PlainGood}
 use Rattle.sequence.proofs.Lays.{Lays, plain-lays, chunk-lays}
 
@@ -73,7 +73,7 @@ module _ (s : Call) (history : List Position) (r : Chunk) where
       let ps = history ++ positionsOf s r in
       accepted-present-key (chunkCall s (length history) r) (chunkInputs (stateOf s history) r) refl (λ b g j k. positionOf ps j .key b g k)
       (chunk-lays s history r ps (λ j l. refl) .key)
-      ∙ ap (λ n. tensorOf 4 (s .batches) (s .kvheads) n (s .size) (λ b g j k. positionOf ps j .key b g k)) (sym (length-joined s r history))
+      ∙ ap (λ n. tensorOf 4 (s .batches) (s .kvheads) n (s .size) (λ b g j k. positionOf ps j .key b g k)) (sym (length-with-chunk s r history))
 
   pub chunk-present-values : acceptedOf (chunkCall s (length history) r) (chunkInputs (stateOf s history) r) .tensors .presentValue ≡ valueCache s (history ++ positionsOf s r)
   unfolding valueCache
@@ -81,7 +81,7 @@ module _ (s : Call) (history : List Position) (r : Chunk) where
       let ps = history ++ positionsOf s r in
       accepted-present-value (chunkCall s (length history) r) (chunkInputs (stateOf s history) r) refl (λ b g j k. positionOf ps j .value b g k)
       (chunk-lays s history r ps (λ j l. refl) .value)
-      ∙ ap (λ n. tensorOf 4 (s .batches) (s .kvheads) n (s .vsize) (λ b g j k. positionOf ps j .value b g k)) (sym (length-joined s r history))
+      ∙ ap (λ n. tensorOf 4 (s .batches) (s .kvheads) n (s .vsize) (λ b g j k. positionOf ps j .value b g k)) (sym (length-with-chunk s r history))
 
   -- row i of a chunk has the bits of row P + i of the plain call over any positions that begin with the history's and the chunk's
   pub chunk-row : PlainGood s (history ++ positionsOf s r) → (ps : List Position)

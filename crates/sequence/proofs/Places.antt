@@ -41,8 +41,8 @@ module _ (s : Call) (r : Chunk) where
   unfolding positionsOf
   length-positions = length-tabulate (lengthOf r) (chunkPosition s r)
 
-  pub length-joined : (history : List Position) → length (history ++ positionsOf s r) ≡ length history + lengthOf r
-  length-joined history = length-append history (positionsOf s r) ∙ ap (_+_ (length history)) length-positions
+  pub length-with-chunk : (history : List Position) → length (history ++ positionsOf s r) ≡ length history + lengthOf r
+  length-with-chunk history = length-append history (positionsOf s r) ∙ ap (_+_ (length history)) length-positions
 
   -- position P + i of a history of P positions and then a chunk's is position i of the chunk
   pub position-new : (history : List Position) (i : ℕ) → i < lengthOf r → positionOf (history ++ positionsOf s r) (length history + i) ≡ chunkPosition s r i
@@ -73,11 +73,11 @@ good-before s history ps g i h =
 -- a chunk's positions are good where those of the history and it are
 pub good-chunk : (s : Call) (history : List Position) (r : Chunk) → AllGood s (history ++ positionsOf s r) → (i : ℕ) → i < lengthOf r → Good s (chunkPosition s r i)
 good-chunk s history r g i h =
-    subst (Good s) (position-new s r history i h) (g (length history + i) (let l = length-joined s r history in omega arith))
+    subst (Good s) (position-new s r history i h) (g (length history + i) (let l = length-with-chunk s r history in omega arith))
 
 -- a history and a chunk are good where each is
-pub good-joined : (s : Call) (history : List Position) (r : Chunk) → AllGood s history → ((i : ℕ) → i < lengthOf r → Good s (chunkPosition s r i)) → AllGood s (history ++ positionsOf s r)
-good-joined s history r old new j h =
+pub good-with-chunk : (s : Call) (history : List Position) (r : Chunk) → AllGood s history → ((i : ℕ) → i < lengthOf r → Good s (chunkPosition s r i)) → AllGood s (history ++ positionsOf s r)
+good-with-chunk s history r old new j h =
     below-or-past (length history) j (λ j. Good s (positionOf (history ++ positionsOf s r) j))
     (λ l. subst (Good s) (sym (position-old history (positionsOf s r) j l)) (old j l))
-    (λ i e. let l : i < lengthOf r = let z = length-joined s r history in omega arith in subst (Good s) (sym (position-new s r history i l)) (new i l))
+    (λ i e. let l : i < lengthOf r = let z = length-with-chunk s r history in omega arith in subst (Good s) (sym (position-new s r history i l)) (new i l))

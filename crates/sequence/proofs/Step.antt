@@ -28,7 +28,7 @@ use Rattle.attention.proofs.Entries.{taken-outcome, not-taken-outcome}
 use Rattle.sequence.specs.Positions.{Position, positionOf, plainCall, keyCache, valueCache}
 use Rattle.sequence.specs.Chunks.{entryRun, Chunk, State, inputsAt, outputsAt, lengthOf, lentOf, chunkCall, chunkInputs, chunkOutcome, positionsOf, plainAccepted, entered, isDone}
 use Rattle.sequence.proofs.Cells.{nothing→good, good→nothing, nothing→good-incoming, good→nothing-incoming}
-use Rattle.sequence.proofs.Places.{stateOf, length-joined, AllGood, good-before, good-chunk, good-joined}
+use Rattle.sequence.proofs.Places.{stateOf, length-with-chunk, AllGood, good-before, good-chunk, good-with-chunk}
 use Rattle.sequence.proofs.Plain.{split, limits→limited, limited→limits, PlainGood, plain→good, good→plain}
 
 -- ---- the caches of a history
@@ -75,12 +75,12 @@ module _ (s : Call) (history : List Position) (r : Chunk) where
       let q = nothing→good (s .rank) (s .batches) (s .qheads) (lengthOf r) (s .size) (r .query) (f .query) (a .query) in
       let k = nothing→good-incoming c (chunkInputs (stateOf s history) r .live) (λ b. refl) (s .size) (r .key) (f .key) (a .key) in
       let v = nothing→good-incoming c (chunkInputs (stateOf s history) r .live) (λ b. refl) (s .vsize) (r .value) (f .value) (a .value) in
-      let n = length-joined s r history in
+      let n = length-with-chunk s r history in
       record {
         limited = record { dimensions = d .dimensions; some = omega arith; total = omega arith };
         groups = groups-same (plainCall s (history ++ positionsOf s r)) c refl refl ∙ a .groups;
         settings = settings-same (plainCall s (history ++ positionsOf s r)) c refl refl refl refl refl ∙ a .settings;
-        good = good-joined s history r good
+        good = good-with-chunk s history r good
             (λ i l. record {
               query = λ b h n hb hh hn. q b h i n hb hh l hn;
               key = λ b g n hb hg hn. k b g i n hb hg l hn;
@@ -97,7 +97,7 @@ module _ (s : Call) (history : List Position) (r : Chunk) where
       let d = p .limited in
       let new = good-chunk s history r (p .good) in
       let old = good-before s history (positionsOf s r) (p .good) in
-      let n = length-joined s r history in
+      let n = length-with-chunk s r history in
       record {
         limits = limited→limits s Cached (length history) (lengthOf r) refl (record { dimensions = d .dimensions; some = omega arith; total = omega arith });
         groups = groups-same c (plainCall s (history ++ positionsOf s r)) refl refl ∙ p .groups;

@@ -14,7 +14,7 @@ use Rattle.sequence.specs.Positions.{Position, positionOf, plainCall, pl
 use Rattle.sequence.specs.Chunks.{entryRun, Chunk, State, start, lengthOf, chunkCall, chunkInputs, chunkOutcome, stateAfter, positionsOf, entered, historyNext, historyAfter, isDone}
 use Rattle.sequence.specs.Demand.{ChunkHolds, Demand3}
 use Rattle.sequence.proofs.Plain.{good→plain}
-use Rattle.sequence.proofs.Places.{stateOf, AllGood, length-joined, position-old}
+use Rattle.sequence.proofs.Places.{stateOf, AllGood, length-with-chunk, position-old}
 use Rattle.sequence.proofs.Step.{entered→plain, entered-outcome, other-outcome}
 use Rattle.sequence.proofs.Outputs.{chunk-answer, chunk-row}
 use Rattle.sequence.proofs.Kept.{Kept, next, history-entered, kept-start, kept-after, history-extends, history-append}
@@ -32,7 +32,7 @@ module _ (s : Call) (history : List Position) (r : Chunk) where
   answer-entered e =
       ap (λ o. o .answer) (entered-outcome s history r e)
       ∙ chunk-answer s history r
-      ∙ ap (λ n. Done n 0) (sym (ap length (history-entered s (stateOf s history) history r e) ∙ length-joined s r history))
+      ∙ ap (λ n. Done n 0) (sym (ap length (history-entered s (stateOf s history) history r e) ∙ length-with-chunk s r history))
 
   row-entered : (whole later : List Position) → whole ≡ historyNext s (stateOf s history) history r ++ later → entered s (stateOf s history) history r ≡ true
       → (b h i k : ℕ) → b < s .batches → h < s .qheads → i < lengthOf r → k < s .vsize
@@ -43,7 +43,7 @@ module _ (s : Call) (history : List Position) (r : Chunk) where
       let x = chunkInputs (stateOf s history) r in
       let ps = history ++ positionsOf s r in
       let begins : whole ≡ ps ++ later = w ∙ ap (λ l. l ++ later) (history-entered s (stateOf s history) history r e) in
-      let n = length-joined s r history in
+      let n = length-with-chunk s r history in
       let long : length history + lengthOf r ≤ length whole = let m = ap length begins ∙ length-append ps later in omega arith in
       ap (λ o. cellAt (o .tensors .output) (s .rank) (s .qheads) (lengthOf r) (s .vsize) b h i k) (entered-outcome s history r e)
       ∙ accepted-output c x b h i k hb hh hi hk

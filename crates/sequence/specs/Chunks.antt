@@ -138,14 +138,14 @@ entered s st history r =
     && outputsFit (chunkCall s (length history) r) (lentOf r)
     && plainAccepted s (history ++ positionsOf s r)
 
-abbrev pub joined : Bool → List Position → List Position → List Position
-joined true history ps = history ++ ps
-joined false history ps = history
+abbrev pub historyWhere : Bool → List Position → List Position → List Position
+historyWhere true history ps = history ++ ps
+historyWhere false history ps = history
 
 -- the history after a chunk, and after a sequence of chunks from a state and a history
 unfoldable pub historyNext : Call → State → List Position → Chunk → List Position
 unfolding entered positionsOf
-historyNext s st history r = joined (entered s st history r) history (positionsOf s r)
+historyNext s st history r = historyWhere (entered s st history r) history (positionsOf s r)
 
 unfoldable pub historyAfter : Run → Call → State → List Position → List Chunk → List Position
 unfolding historyNext chunkOutcome

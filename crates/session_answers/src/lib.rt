@@ -19,7 +19,7 @@ pub fn report_reading(reading: Reading) -> ReadingNumbers
             size: sizes.size as u64,
             vsize: sizes.vsize as u64,
             positions: positions as u64,
-            used: session_sizes::position_at(sizes, positions) as u64,
+            used: session_sizes::record_start(sizes, positions) as u64,
             place: 0,
         },
         Reading::NotRead(refusal) => ReadingNumbers {

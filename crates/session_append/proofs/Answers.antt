@@ -21,7 +21,7 @@ use Rattle.session_file.specs.declared.Reading.{Reading}
 use Rattle.session_file.specs.declared.Reading.the-variants.{SessionRead, NotRead}
 use Rattle.session_file.specs.declared.Saving.the-variants.{Saved}
 use Rattle.session_file.specs.Below.{leastFrom, joined}
-use Rattle.session_file.specs.Sizes.{sizesHold, rowsOf, recordLength, positionAt}
+use Rattle.session_file.specs.Sizes.{sizesHold, rowsOf, recordLength, recordStart}
 use Rattle.session_file.specs.Form.{sessionOf, positionBytes}
 use Rattle.session_file.specs.Reader.{cachesFit, readOf}
 use Rattle.session_file.specs.Writer.{Written, written, refusedWith, rowsFault, writtenBehind, appendedTo, appendOf}
@@ -49,7 +49,7 @@ caches-fit z n keys values l h e =
 -- ---- the place of the new records
 
 -- they fill the bytes from the end of the last whole record to the new end
-pub new-length : (z : Sizes) (n count from to : ℕ) → from ≡ positionAt z n → to ≡ positionAt z (n + count) → (from + (to - from) ≡ to) × (to - from ≡ count * recordLength z)
+pub new-length : (z : Sizes) (n count from to : ℕ) → from ≡ recordStart z n → to ≡ recordStart z (n + count) → (from + (to - from) ≡ to) × (to - from ≡ count * recordLength z)
 new-length z n count from to e f = let m = add-mul n count (recordLength z) in (omega arith, omega arith)
 
 -- ---- the answers
@@ -77,18 +77,18 @@ module _ (z : Sizes) (n : ℕ) (buffer : List ℕ) (count : ℕ) (keys values : 
 
       -- none was found
       module _ (f : count ≤ indexOr (leastFrom (rowsFault (sessionOf z count keys values)) count 0) count) where
-        pub no-room : length buffer < positionAt z (n + count) → refusedWith Room buffer ≡ appendedTo (SessionRead z n) buffer count keys values
+        pub no-room : length buffer < recordStart z (n + count) → refusedWith Room buffer ≡ appendedTo (SessionRead z n) buffer count keys values
         unfolding appendedTo writtenBehind
-        no-room l = rw (le-leb (n + count) 2048 h, e, index-none (rowsFault (sessionOf z count keys values)) count f, lt-leb (positionAt z (n + count)) (length buffer) l)
+        no-room l = rw (le-leb (n + count) 2048 h, e, index-none (rowsFault (sessionOf z count keys values)) count f, lt-leb (recordStart z (n + count)) (length buffer) l)
 
-        added : positionAt z (n + count) ≤ length buffer
-            → written (Saved (n + count) (positionAt z (n + count))) (writtenAt buffer (positionAt z n) (joined (positionBytes (sessionOf z count keys values)) count))
+        added : recordStart z (n + count) ≤ length buffer
+            → written (Saved (n + count) (recordStart z (n + count))) (writtenAt buffer (recordStart z n) (joined (positionBytes (sessionOf z count keys values)) count))
             ≡ appendedTo (SessionRead z n) buffer count keys values
         unfolding appendedTo writtenBehind
-        added l = rw (le-leb (n + count) 2048 h, e, index-none (rowsFault (sessionOf z count keys values)) count f, le-leb (positionAt z (n + count)) (length buffer) l)
+        added l = rw (le-leb (n + count) 2048 h, e, index-none (rowsFault (sessionOf z count keys values)) count f, le-leb (recordStart z (n + count)) (length buffer) l)
 
         -- the part of the buffer that was lent comes back with the new records
-        pub saved : CachesFit z count (length keys) (length values) → (from to : ℕ) (w : List ℕ) → from ≡ positionAt z n → to ≡ positionAt z (n + count) → to ≤ length buffer
+        pub saved : CachesFit z count (length keys) (length values) → (from to : ℕ) (w : List ℕ) → from ≡ recordStart z n → to ≡ recordStart z (n + count) → to ≤ length buffer
             → w ≡ joined (positionBytes (sessionOf z count keys values)) count
             → written (Saved (n + count) to) (withPart from (to - from) buffer w) ≡ appendedTo (SessionRead z n) buffer count keys values
         saved fit from to w a b l d =

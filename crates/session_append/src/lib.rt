@@ -35,8 +35,8 @@ fn append_to(
             position: n + fault,
         });
     }
-    let from = session_sizes::position_at(sizes, n);
-    let to = session_sizes::position_at(sizes, n + count);
+    let from = session_sizes::record_start(sizes, n);
+    let to = session_sizes::record_start(sizes, n + count);
     if buffer.len() < to {
         return Saving::NotSaved(Refusal::Room);
     }

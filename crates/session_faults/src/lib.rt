@@ -6,7 +6,7 @@ ghost use lib.ListN.{length};
 ghost use lib.Ieee.{binary32, ofBits};
 ghost use Rattle.call.specs.Contents.{elementFault};
 ghost use Rattle.session_file.specs.Below.{numberBelow};
-ghost use Rattle.session_file.specs.Sizes.{sizesHold, recordLength, positionAt};
+ghost use Rattle.session_file.specs.Sizes.{sizesHold, recordLength, recordStart};
 ghost use Rattle.session_file.specs.Reader.{payloadFault, positionFault};
 use session_file::Sizes;
 
@@ -39,10 +39,10 @@ fn payload_faults(payload: &[u8]) -> u32
 pub fn position_fault(file: &[u8], sizes: Sizes, p: usize) -> bool
     requires { ⌜ sizesHold sizes ≡ true ⌝ }
     requires { ⌜ p ≤ 2048 ⌝ }
-    requires { ⌜ positionAt sizes p + recordLength sizes ≤ length (now file) ⌝ }
+    requires { ⌜ recordStart sizes p + recordLength sizes ≤ length (now file) ⌝ }
     ensures { λ r. ⌜ r ≡ positionFault sizes (now (file .entry)) p ⌝ }
 {
-    let from = session_sizes::position_at(sizes, p) + 6;
+    let from = session_sizes::record_start(sizes, p) + 6;
     let to = from + session_sizes::payload_length(sizes);
     0 < payload_faults(&file[from..to])
 }

@@ -7,7 +7,7 @@ use native.Mathlib.Omega.{arith}
 use Rattle.call.specs.Limits.{within}
 use Rattle.call.proofs.Facts.{holds, four, bounds}
 use Rattle.session_file.specs.declared.Sizes.{Sizes}
-use Rattle.session_file.specs.Sizes.{sizesHold, mostPositions, rowsOf, pairLength, payloadLength, recordLength, positionAt}
+use Rattle.session_file.specs.Sizes.{sizesHold, mostPositions, rowsOf, pairLength, payloadLength, recordLength, recordStart}
 
 pub record SizesFacts (z : Sizes) : Type 0 where
   pub batches : (1 ≤ z .batches) × (z .batches ≤ 8)
@@ -40,8 +40,8 @@ sizes→facts z e =
     }
 
 -- the record of a position begins inside any file that 2,048 positions could fill
-pub position-at-most : (z : Sizes) (p : ℕ) → sizesHold z ≡ true → p ≤ mostPositions → positionAt z p ≤ 1073754126
-position-at-most z p e l =
+pub record-start-most : (z : Sizes) (p : ℕ) → sizesHold z ≡ true → p ≤ mostPositions → recordStart z p ≤ 1073754126
+record-start-most z p e l =
     let f = sizes→facts z e in
     let r : recordLength z ≤ 524294 = omega (arith, f .payload) in
     let m : p * recordLength z ≤ 2048 * 524294 = mul-le-mul l r in

@@ -18,7 +18,7 @@ use Rattle.call.specs.declared.Refusal.{Refusal}
 use Rattle.call.specs.declared.Refusal.the-variants.{Limits, Position, Record}
 use Rattle.session_file.specs.declared.Reading.{Reading}
 use Rattle.session_file.specs.declared.Reading.the-variants.{SessionRead, NotRead}
-use Rattle.session_file.specs.Sizes.{sizesHold, mostPositions, payloadLength, recordLength, positionAt}
+use Rattle.session_file.specs.Sizes.{sizesHold, mostPositions, payloadLength, recordLength, recordStart}
 use Rattle.session_file.specs.Reader.{nextOf, positionFault, atMost, onward, walkFrom, sizesAt, firstWhole, readOf}
 
 -- n positions of a file of sizes z are whole and without fault
@@ -27,13 +27,13 @@ pub record Standing (file : List ℕ) (z : Sizes) (n : ℕ) : Type 0 where
   pub sizes : z ≡ sizesAt file
   pub limits : sizesHold z ≡ true
   pub most : n ≤ mostPositions
-  pub inside : positionAt z n ≤ length file
-  pub heads : (p : ℕ) → p < n → headIs file (positionAt z p) (payloadLength z) 2 ≡ true
+  pub inside : recordStart z n ≤ length file
+  pub heads : (p : ℕ) → p < n → headIs file (recordStart z p) (payloadLength z) 2 ≡ true
   pub sound : (p : ℕ) → p < n → positionFault z file p ≡ false
 
 -- ---- one record
 
-pub next-at : (z : Sizes) (p : ℕ) → positionAt z (suc p) ≡ positionAt z p + recordLength z
+pub next-at : (z : Sizes) (p : ℕ) → recordStart z (suc p) ≡ recordStart z p + recordLength z
 next-at z p = omega (arith, suc-mul p (recordLength z))
 
 abbrev isWhole : Next → Bool
@@ -49,10 +49,10 @@ whole-by false true false e = (refl, refl)
 whole-by false false c e = absurd (true≢false (sym e))
 
 -- a whole record has the right head, and ends inside the file
-pub whole→record : (z : Sizes) (file : List ℕ) (p : ℕ) → nextOf z file p ≡ Whole → (headIs file (positionAt z p) (payloadLength z) 2 ≡ true) × (positionAt z p + recordLength z ≤ length file)
+pub whole→record : (z : Sizes) (file : List ℕ) (p : ℕ) → nextOf z file p ≡ Whole → (headIs file (recordStart z p) (payloadLength z) 2 ≡ true) × (recordStart z p + recordLength z ≤ length file)
 unfolding nextOf
 whole→record z file p e =
-    let w = whole-by (ltb (length file) (positionAt z p + 6)) (headIs file (positionAt z p) (payloadLength z) 2) (ltb (length file) (positionAt z p + recordLength z)) (ap isWhole e) in
+    let w = whole-by (ltb (length file) (recordStart z p + 6)) (headIs file (recordStart z p) (payloadLength z) 2) (ltb (length file) (recordStart z p + recordLength z)) (ap isWhole e) in
     (w .0, ltb-false _ _ (w .1))
 
 -- ---- the walk
@@ -130,7 +130,7 @@ walk→walked z file (suc more) p y n e =
 
 -- ---- the file
 
-inside-of : (z : Sizes) (file : List ℕ) (n : ℕ) → 14 ≤ length file → ((q : ℕ) → 0 ≤ q → q < n → (nextOf z file q ≡ Whole) × (positionFault z file q ≡ false)) → positionAt z n ≤ length file
+inside-of : (z : Sizes) (file : List ℕ) (n : ℕ) → 14 ≤ length file → ((q : ℕ) → 0 ≤ q → q < n → (nextOf z file q ≡ Whole) × (positionFault z file q ≡ false)) → recordStart z n ≤ length file
 inside-of z file zero h each = rw (zero-mul (recordLength z)) h
 inside-of z file (suc n) h each =
     let w = whole→record z file n (each n (omega arith) (omega arith) .0) in
@@ -196,10 +196,10 @@ cut-by false true false e = absurd (true≢false (sym e))
 cut-by false false c e = absurd (true≢false (sym e))
 
 -- a cut record has the right head, and the file ends inside it, behind the head
-pub cut→record : (z : Sizes) (file : List ℕ) (p : ℕ) → nextOf z file p ≡ Cut → (headIs file (positionAt z p) (payloadLength z) 2 ≡ true) × (length file < positionAt z p + recordLength z) × (positionAt z p + 6 ≤ length file)
+pub cut→record : (z : Sizes) (file : List ℕ) (p : ℕ) → nextOf z file p ≡ Cut → (headIs file (recordStart z p) (payloadLength z) 2 ≡ true) × (length file < recordStart z p + recordLength z) × (recordStart z p + 6 ≤ length file)
 unfolding nextOf
 cut→record z file p e =
-    let w = cut-by (ltb (length file) (positionAt z p + 6)) (headIs file (positionAt z p) (payloadLength z) 2) (ltb (length file) (positionAt z p + recordLength z)) (ap isCut e) in
+    let w = cut-by (ltb (length file) (recordStart z p + 6)) (headIs file (recordStart z p) (payloadLength z) 2) (ltb (length file) (recordStart z p + recordLength z)) (ap isCut e) in
     (w .1, ltb-true _ _ (w .2), ltb-false _ _ (w .0))
 
 abbrev isEnded : Next → Bool
@@ -215,10 +215,10 @@ ended-by false true false e = absurd (true≢false (sym e))
 ended-by false false c e = absurd (true≢false (sym e))
 
 -- behind the last record of a file that ends there are fewer than six bytes
-pub ended→short : (z : Sizes) (file : List ℕ) (p : ℕ) → nextOf z file p ≡ Ended → length file < positionAt z p + 6
+pub ended→short : (z : Sizes) (file : List ℕ) (p : ℕ) → nextOf z file p ≡ Ended → length file < recordStart z p + 6
 unfolding nextOf
 ended→short z file p e =
-    ltb-true _ _ (ended-by (ltb (length file) (positionAt z p + 6)) (headIs file (positionAt z p) (payloadLength z) 2) (ltb (length file) (positionAt z p + recordLength z)) (ap isEnded e))
+    ltb-true _ _ (ended-by (ltb (length file) (recordStart z p + 6)) (headIs file (recordStart z p) (payloadLength z) 2) (ltb (length file) (recordStart z p + recordLength z)) (ap isEnded e))
 
 -- ---- a walk that is refused
 
@@ -230,7 +230,7 @@ refusalIn (NotRead r) = r
 abbrev pub Fault : Sizes → List ℕ → (most n : ℕ) → Refusal → Type 0
 Fault z file most n r =
     ((nextOf z file n ≡ Whole) × (positionFault z file n ≡ true) × (n < most) × (r ≡ Position n))
-    ⊎ (((nextOf z file n ≡ Wrong) × (r ≡ Record (positionAt z n)))
+    ⊎ (((nextOf z file n ≡ Wrong) × (r ≡ Record (recordStart z n)))
     ⊎ (((nextOf z file n ≡ Cut) ⊎ (nextOf z file n ≡ Whole)) × (n ≡ most) × (r ≡ Limits)))
 
 record Broken (z : Sizes) (file : List ℕ) (more p : ℕ) (r : Refusal) : Type 0 where

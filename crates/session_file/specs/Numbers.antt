@@ -5,7 +5,7 @@ use Rattle.session_file.specs.declared.Reading.{Reading}
 use Rattle.session_file.specs.declared.Reading.the-variants.{SessionRead, NotRead}
 use Rattle.session_file.specs.declared.Saving.{Saving}
 use Rattle.session_file.specs.declared.Saving.the-variants.{Saved, NotSaved}
-use Rattle.session_file.specs.Sizes.{positionAt}
+use Rattle.session_file.specs.Sizes.{recordStart}
 
 -- a file of those sizes and positions, and the byte at which its last whole record ends; or a refusal with its place
 pub record ReadingReport : Type 0 where
@@ -26,7 +26,7 @@ readingReport (SessionRead z n) = record {
   size = z .size;
   vsize = z .vsize;
   positions = n;
-  used = positionAt z n;
+  used = recordStart z n;
   place = 0;
 }
 readingReport (NotRead r) = record { number = numberOf r; batches = 0; kvheads = 0; size = 0; vsize = 0; positions = 0; used = 0; place = placeOf r }

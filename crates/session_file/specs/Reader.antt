@@ -16,7 +16,7 @@ use Rattle.session_file.specs.declared.Next.the-variants.{Ended, Wrong, 
 use Rattle.session_file.specs.declared.Reading.{Reading}
 use Rattle.session_file.specs.declared.Reading.the-variants.{SessionRead, NotRead}
 use Rattle.session_file.specs.Below.{numberBelow, anyBelow}
-use Rattle.session_file.specs.Sizes.{sizesHold, mostPositions, rowsOf, pairLength, payloadLength, recordLength, positionAt}
+use Rattle.session_file.specs.Sizes.{sizesHold, mostPositions, rowsOf, pairLength, payloadLength, recordLength, recordStart}
 use Rattle.session_file.specs.Form.{Session, sessionOf}
 
 -- ---- the walk
@@ -24,8 +24,8 @@ use Rattle.session_file.specs.Form.{Session, sessionOf}
 -- what stands where the record of position p would begin
 unfoldable pub nextOf : Sizes → List ℕ → ℕ → Next
 nextOf z file p =
-    cond (ltb (length file) (positionAt z p + 6)) Ended
-    (cond (headIs file (positionAt z p) (payloadLength z) 2) (cond (ltb (length file) (positionAt z p + recordLength z)) Cut Whole) Wrong)
+    cond (ltb (length file) (recordStart z p + 6)) Ended
+    (cond (headIs file (recordStart z p) (payloadLength z) 2) (cond (ltb (length file) (recordStart z p + recordLength z)) Cut Whole) Wrong)
 
 -- element i of the payload that begins at a byte is not a number of magnitude at most 65,536
 abbrev pub payloadFault : List ℕ → ℕ → ℕ → Bool
@@ -34,19 +34,19 @@ payloadFault file from i = elementFault (f32At file (from + i * 4))
 -- one of the elements of the whole record of position p is such
 unfoldable pub positionFault : Sizes → List ℕ → ℕ → Bool
 unfolding numberBelow elementFault f32At
-positionFault z file p = anyBelow (payloadFault file (positionAt z p + 6)) (rowsOf z * (z .size + z .vsize))
+positionFault z file p = anyBelow (payloadFault file (recordStart z p + 6)) (rowsOf z * (z .size + z .vsize))
 
 -- 2,048 positions are whole: a right head is one too many, its payload not looked at
 abbrev pub atMost : Sizes → ℕ → Next → Reading
 atMost z p Ended = SessionRead z p
-atMost z p Wrong = NotRead (Record (positionAt z p))
+atMost z p Wrong = NotRead (Record (recordStart z p))
 atMost z p Cut = NotRead Limits
 atMost z p Whole = NotRead Limits
 
 -- The walk after p whole positions, with room for some more. It goes on behind a whole record without fault.
 abbrev pub onward : Sizes → ℕ → Next → Bool → Reading → Reading
 onward z p Ended fault rest = SessionRead z p
-onward z p Wrong fault rest = NotRead (Record (positionAt z p))
+onward z p Wrong fault rest = NotRead (Record (recordStart z p))
 onward z p Cut fault rest = SessionRead z p
 onward z p Whole true rest = NotRead (Position p)
 onward z p Whole false rest = rest
@@ -77,7 +77,7 @@ unfoldable pub cacheAt : Sizes → List ℕ → (n behind size : ℕ) → List F
 unfolding tabulate f32At
 cacheAt z file n behind size =
     tabulate (rowsOf z * n * size)
-    (λ i. let row = i / size in f32At file (positionAt z (row % n) + 6 + row / n * pairLength z + behind + i % size * 4))
+    (λ i. let row = i / size in f32At file (recordStart z (row % n) + 6 + row / n * pairLength z + behind + i % size * 4))
 
 -- the session of n positions that stands in a file
 unfoldable pub sessionAt : Sizes → List ℕ → ℕ → Session

@@ -28,5 +28,5 @@ abbrev pub recordLength : Sizes → ℕ
 recordLength z = 6 + payloadLength z
 
 -- the byte at which the record of position p begins, behind the first record, which has 14 bytes
-abbrev pub positionAt : Sizes → ℕ → ℕ
-positionAt z p = 14 + p * recordLength z
+abbrev pub recordStart : Sizes → ℕ → ℕ
+recordStart z p = 14 + p * recordLength z

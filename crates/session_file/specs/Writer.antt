@@ -15,7 +15,7 @@ use Rattle.session_file.specs.declared.Reading.the-variants.{SessionRead
 use Rattle.session_file.specs.declared.Saving.{Saving}
 use Rattle.session_file.specs.declared.Saving.the-variants.{Saved, NotSaved}
 use Rattle.session_file.specs.Below.{numberBelow, anyBelow, leastFrom, joined}
-use Rattle.session_file.specs.Sizes.{sizesHold, mostPositions, rowsOf, positionAt}
+use Rattle.session_file.specs.Sizes.{sizesHold, mostPositions, rowsOf, recordStart}
 use Rattle.session_file.specs.Form.{Session, sessionOf, cacheRow, positionBytes, sizesBytes}
 use Rattle.session_file.specs.Reader.{readOf, cachesFit}
 
@@ -60,8 +60,8 @@ writtenBehind (at p) buffer n new = refusedWith (Position (n + p)) buffer
 writtenBehind nothing buffer n new =
     let z = new .sizes in
     let m = n + new .positions in
-    cond (leb (positionAt z m) (length buffer))
-    (written (Saved m (positionAt z m)) (writtenAt buffer (positionAt z n) (joined (positionBytes new) (new .positions))))
+    cond (leb (recordStart z m) (length buffer))
+    (written (Saved m (recordStart z m)) (writtenAt buffer (recordStart z n) (joined (positionBytes new) (new .positions))))
     (refusedWith Room buffer)
 
 -- a position above the 2,048th, then the rows' lengths, then the rest

@@ -16,7 +16,7 @@ use Rattle.session_file.specs.declared.Sizes.{Sizes}
 use Rattle.session_file.specs.declared.Reading.the-variants.{SessionRead}
 use Rattle.session_file.specs.declared.Saving.the-variants.{Saved}
 use Rattle.session_file.specs.Below.{leastFrom, joined}
-use Rattle.session_file.specs.Sizes.{rowsOf, positionAt}
+use Rattle.session_file.specs.Sizes.{rowsOf, recordStart}
 use Rattle.session_file.specs.Form.{Session, sessionOf, cacheRow, positionBytes}
 use Rattle.session_file.specs.Reader.{readOf, sessionAt}
 use Rattle.session_file.specs.Writer.{written, rowFault, rowsFault, appendOf}
@@ -113,36 +113,36 @@ module _ (buffer : List ℕ) (used count : ℕ) (keys values : List Float) (m u 
 
   -- the file to the end of its last whole record
   abbrev old : List ℕ
-  old = take (positionAt z n) buffer
+  old = take (recordStart z n) buffer
 
   used-long : length (take used buffer) ≡ used
   used-long = length-take-le used buffer (x .file-inside)
 
-  old-is : take (positionAt z n) (take used buffer) ≡ old
-  old-is = take-take (positionAt z n) used buffer (omega (arith, file-stands .inside, used-long))
+  old-is : take (recordStart z n) (take used buffer) ≡ old
+  old-is = take-take (recordStart z n) used buffer (omega (arith, file-stands .inside, used-long))
 
   old-stands : Standing old z n
-  old-stands = subst (λ (t : List ℕ). Standing t z n) old-is (standing-cut (take used buffer) z (positionAt z n) (file-stands .inside) n n (omega arith) file-stands (omega arith) (omega arith))
+  old-stands = subst (λ (t : List ℕ). Standing t z n) old-is (standing-cut (take used buffer) z (recordStart z n) (file-stands .inside) n n (omega arith) file-stands (omega arith) (omega arith))
 
-  old-ends : length old ≡ positionAt z n
-  old-ends = length-take-le (positionAt z n) buffer (omega (arith, file-stands .inside, used-long, x .file-inside))
+  old-ends : length old ≡ recordStart z n
+  old-ends = length-take-le (recordStart z n) buffer (omega (arith, file-stands .inside, used-long, x .file-inside))
 
   abbrev added : List ℕ
   added = joined (positionBytes new) count
 
-  long : length (old ++ added) ≡ positionAt z (n + count)
+  long : length (old ++ added) ≡ recordStart z (n + count)
   long = length-both old n new old-stands old-ends savable (x .most)
 
-  added-long : positionAt z n + length added ≡ positionAt z (n + count)
+  added-long : recordStart z n + length added ≡ recordStart z (n + count)
   added-long = omega (arith, length-append old added, old-ends, long)
 
-  fits-in : positionAt z n + length added ≤ length buffer
+  fits-in : recordStart z n + length added ≤ length buffer
   fits-in = omega (arith, added-long, x .room)
 
   left-is : take u left ≡ old ++ added
   left-is =
       (λ i. take ((sym (x .end) ∙ sym added-long) i) (sym (x .buffer-left) i))
-      ∙ take-written buffer (positionAt z n) added fits-in
+      ∙ take-written buffer (recordStart z n) added fits-in
 
   all-stand : Standing (old ++ added) z (n + count)
   all-stand = standing-both old n new old-stands old-ends savable (x .most)
@@ -151,11 +151,11 @@ module _ (buffer : List ℕ) (used count : ℕ) (keys values : List Float) (m u 
   unfolding sessionAt
   old-session =
       ap (λ (t : List ℕ). sessionAt z t n) (sym old-is)
-      ∙ session-cut z (take used buffer) n n (positionAt z n) (omega arith) (omega arith)
+      ∙ session-cut z (take used buffer) n n (recordStart z n) (omega arith) (omega arith)
       ∙ first-all (sessionAt z (take used buffer) n) (standing→savable (take used buffer) z n file-stands)
 
   -- a record that ends before byte u is that of a saved position
-  below : (p : ℕ) → positionAt z (suc p) ≤ u → p < m
+  below : (p : ℕ) → recordStart z (suc p) ≤ u → p < m
   below p h = lt-of-not-le (λ l. let a = position-mono z (n + count) p (omega (arith, x .total)) in let b = record-end z p (suc p) (omega arith) in omega (arith, x .end))
 
   holds : AppendHolds buffer used count keys values m u left
@@ -164,12 +164,12 @@ module _ (buffer : List ℕ) (used count : ℕ) (keys values : List Float) (m u 
     n = n;
     file = x .file;
     total = sym (x .total);
-    end = sym (x .end) ∙ ap (positionAt z) (x .total);
+    end = sym (x .end) ∙ ap (recordStart z) (x .total);
     saved = λ p l. let e = position-mono z (suc p) (n + count) (omega (arith, x .total)) in omega (arith, x .end);
     only = λ p h. below p h;
     inside = omega (arith, ap length left-is, length-take u left, long, x .end);
-    behind = (λ i. drop ((sym (x .end) ∙ sym added-long) i) (sym (x .buffer-left) i)) ∙ drop-written buffer (positionAt z n) added fits-in ∙ ap (λ (i : ℕ). drop i buffer) (added-long ∙ x .end);
-    before = ap (take (positionAt z n)) (sym (x .buffer-left)) ∙ front-written buffer (positionAt z n) added (omega (arith, fits-in));
+    behind = (λ i. drop ((sym (x .end) ∙ sym added-long) i) (sym (x .buffer-left) i)) ∙ drop-written buffer (recordStart z n) added fits-in ∙ ap (λ (i : ℕ). drop i buffer) (added-long ∙ x .end);
+    before = ap (take (recordStart z n)) (sym (x .buffer-left)) ∙ front-written buffer (recordStart z n) added (omega (arith, fits-in));
     reads = ap readOf left-is ∙ ends→read (old ++ added) z (n + count) all-stand long ∙ ap (SessionRead z) (x .total);
     session = (λ i. sessionAt z (left-is i) (sym (x .total) i)) ∙ session-both old n new old-stands old-ends savable (x .most) ∙ ap (λ (s : Session). bothOf s new) old-session;
     cut = λ c l h. ap readOf (sym (take-take c u left h) ∙ ap (take c) left-is) ∙ cut→read (old ++ added) z (n + count) c all-stand l (omega (arith, x .end));

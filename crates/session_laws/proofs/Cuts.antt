@@ -19,36 +19,36 @@ use Rattle.call.specs.declared.Refusal.the-variants.{Limits, Record}
 use Rattle.session_file.specs.declared.Next.{Next}
 use Rattle.session_file.specs.declared.Next.the-variants.{Ended, Cut, Whole}
 use Rattle.session_file.specs.declared.Reading.the-variants.{SessionRead, NotRead}
-use Rattle.session_file.specs.Sizes.{sizesHold, mostPositions, rowsOf, payloadLength, recordLength, positionAt}
+use Rattle.session_file.specs.Sizes.{sizesHold, mostPositions, rowsOf, payloadLength, recordLength, recordStart}
 use Rattle.session_file.specs.Reader.{nextOf, payloadFault, positionFault, atMost, onward, walkFrom, sizesAt, firstWhole, readOf}
 use Rattle.session_file.proofs.Below.{number-ext}
 use Rattle.session_file.proofs.Walks.{Standing, next-at, Stops}
 
 -- ---- positions rise
 
-pub position-mono : (z : Sizes) (p q : ℕ) → p ≤ q → positionAt z p ≤ positionAt z q
+pub position-mono : (z : Sizes) (p q : ℕ) → p ≤ q → recordStart z p ≤ recordStart z q
 position-mono z p q l = omega (arith, mul-le-mul-right (recordLength z) l)
 
 -- a record ends where a later one begins, or before
-pub record-end : (z : Sizes) (p n : ℕ) → p < n → positionAt z p + recordLength z ≤ positionAt z n
+pub record-end : (z : Sizes) (p n : ℕ) → p < n → recordStart z p + recordLength z ≤ recordStart z n
 record-end z p n l = rw (sym (next-at z p)) (position-mono z (suc p) n l)
 
 -- ---- what stands at a place
 
 module _ (z : Sizes) (file : List ℕ) (p : ℕ) where
-  pub ended-at : length file < positionAt z p + 6 → nextOf z file p ≡ Ended
+  pub ended-at : length file < recordStart z p + 6 → nextOf z file p ≡ Ended
   unfolding nextOf
-  ended-at l = rw (lt-ltb (length file) (positionAt z p + 6) l)
+  ended-at l = rw (lt-ltb (length file) (recordStart z p + 6) l)
 
-  pub cut-at : positionAt z p + 6 ≤ length file → headIs file (positionAt z p) (payloadLength z) 2 ≡ true → length file < positionAt z p + recordLength z → nextOf z file p ≡ Cut
+  pub cut-at : recordStart z p + 6 ≤ length file → headIs file (recordStart z p) (payloadLength z) 2 ≡ true → length file < recordStart z p + recordLength z → nextOf z file p ≡ Cut
   unfolding nextOf
-  cut-at a h b = rw (le-ltb (length file) (positionAt z p + 6) a, h, lt-ltb (length file) (positionAt z p + recordLength z) b)
+  cut-at a h b = rw (le-ltb (length file) (recordStart z p + 6) a, h, lt-ltb (length file) (recordStart z p + recordLength z) b)
 
-  pub whole-at : headIs file (positionAt z p) (payloadLength z) 2 ≡ true → positionAt z p + recordLength z ≤ length file → nextOf z file p ≡ Whole
+  pub whole-at : headIs file (recordStart z p) (payloadLength z) 2 ≡ true → recordStart z p + recordLength z ≤ length file → nextOf z file p ≡ Whole
   unfolding nextOf
   whole-at h b =
-      let a : positionAt z p + 6 ≤ length file = omega arith in
-      rw (le-ltb (length file) (positionAt z p + 6) a, h, le-ltb (length file) (positionAt z p + recordLength z) b)
+      let a : recordStart z p + 6 ≤ length file = omega arith in
+      rw (le-ltb (length file) (recordStart z p + 6) a, h, le-ltb (length file) (recordStart z p + recordLength z) b)
 
 -- ---- the walk to a place where it stops
 
@@ -111,23 +111,23 @@ module _ (file : List ℕ) (z : Sizes) (c : ℕ) (inside : c ≤ length file) wh
     vsize = u16At-take c 12 file (omega arith) i;
   }
 
-  pub fault-kept : (p : ℕ) → positionAt z p + recordLength z ≤ c → positionFault z (take c file) p ≡ positionFault z file p
+  pub fault-kept : (p : ℕ) → recordStart z p + recordLength z ≤ c → positionFault z (take c file) p ≡ positionFault z file p
   unfolding positionFault
   fault-kept p l =
-      let from = positionAt z p + 6 in
+      let from = recordStart z p + 6 in
       let w = z .size + z .vsize in
       let all : rowsOf z * w * 4 ≡ payloadLength z = mul-assoc (rowsOf z) w 4 in
       ap (ltb 0) (number-ext (payloadFault (take c file) from) (payloadFault file from) (rowsOf z * w) (λ i h. ap elementFault (f32At-take c (from + i * 4) file (omega arith))))
 
   -- the positions that end before the cut stand in what is left
-  pub standing-cut : (n k : ℕ) → 14 ≤ c → Standing file z n → k ≤ n → positionAt z k ≤ c → Standing (take c file) z k
+  pub standing-cut : (n k : ℕ) → 14 ≤ c → Standing file z n → k ≤ n → recordStart z k ≤ c → Standing (take c file) z k
   standing-cut n k l s h e = record {
     first = first-kept l (s .first);
     sizes = s .sizes ∙ sym (sizes-kept l);
     limits = s .limits;
     most = omega (arith, s .most);
     inside = omega (arith, long);
-    heads = λ p q. let a = record-end z p k q in headIs-take c (positionAt z p) (payloadLength z) 2 file (omega arith) ∙ s .heads p (omega arith);
+    heads = λ p q. let a = record-end z p k q in headIs-take c (recordStart z p) (payloadLength z) 2 file (omega arith) ∙ s .heads p (omega arith);
     sound = λ p q. let a = record-end z p k q in fault-kept p (omega arith) ∙ s .sound p (omega arith);
   }
 
@@ -139,7 +139,7 @@ standing→read file z k s stop =
     read-as z file k (s .first) (s .sizes) (s .limits) (s .most) stop (λ q l. let a = record-end z q k l in (whole-at z file q (s .heads q l) (omega (arith, s .inside)), s .sound q l))
 
 -- the number of records that are whole before byte c
-pub whole-records : (z : Sizes) (c : ℕ) → 14 ≤ c → (positionAt z ((c - 14) / recordLength z) ≤ c) × (c < positionAt z ((c - 14) / recordLength z) + recordLength z)
+pub whole-records : (z : Sizes) (c : ℕ) → 14 ≤ c → (recordStart z ((c - 14) / recordLength z) ≤ c) × (c < recordStart z ((c - 14) / recordLength z) + recordLength z)
 whole-records z c l =
     let k = (c - 14) / recordLength z in
     let some : 0 < recordLength z = omega arith in
@@ -148,10 +148,10 @@ whole-records z c l =
     (omega arith, omega arith)
 
 -- A cut inside the record behind n positions, or before: where it leaves that record's head, the head is right and is not the 2,049th.
-pub tail→read : (file : List ℕ) (z : Sizes) (n c : ℕ) → Standing file z n → 14 ≤ c → c ≤ length file → c < positionAt z n + recordLength z
-    → (positionAt z n + 6 ≤ c → (headIs file (positionAt z n) (payloadLength z) 2 ≡ true) × (n < mostPositions))
+pub tail→read : (file : List ℕ) (z : Sizes) (n c : ℕ) → Standing file z n → 14 ≤ c → c ≤ length file → c < recordStart z n + recordLength z
+    → (recordStart z n + 6 ≤ c → (headIs file (recordStart z n) (payloadLength z) 2 ≡ true) × (n < mostPositions))
     → readOf (take c file) ≡ SessionRead z ((c - 14) / recordLength z)
-tail→read file z n c s l inside h tail = standing→read (take c file) z k kept (stop (decLt c (positionAt z k + 6)))
+tail→read file z n c s l inside h tail = standing→read (take c file) z k kept (stop (decLt c (recordStart z k + 6)))
   where
     k : ℕ
     k = (c - 14) / recordLength z
@@ -164,21 +164,21 @@ tail→read file z n c s l inside h tail = standing→read (take c file) z k kep
     kept : Standing (take c file) z k
     kept = standing-cut file z c inside n k l s (fewer (decLt n k)) (whole-records z c l .0)
 
-    head : Dec (k < n) → positionAt z k + 6 ≤ c → (headIs file (positionAt z k) (payloadLength z) 2 ≡ true) × (k < mostPositions)
+    head : Dec (k < n) → recordStart z k + 6 ≤ c → (headIs file (recordStart z k) (payloadLength z) 2 ≡ true) × (k < mostPositions)
     head (yes a) b = (s .heads k a, omega (arith, s .most))
     head (no a) b =
         let m : n ≡ k = omega (arith, fewer (decLt n k)) in
-        subst (λ (i : ℕ). (headIs file (positionAt z i) (payloadLength z) 2 ≡ true) × (i < mostPositions)) m (tail (omega (arith, ap (positionAt z) m)))
+        subst (λ (i : ℕ). (headIs file (recordStart z i) (payloadLength z) 2 ≡ true) × (i < mostPositions)) m (tail (omega (arith, ap (recordStart z) m)))
 
-    stop : Dec (c < positionAt z k + 6) → Stops z (take c file) k
+    stop : Dec (c < recordStart z k + 6) → Stops z (take c file) k
     stop (yes a) = inl (ended-at z (take c file) k (omega (arith, long file z c inside)))
     stop (no a) =
         let b = head (decLt k n) (omega arith) in
         let m = long file z c inside in
-        inr (cut-at z (take c file) k (omega arith) (headIs-take c (positionAt z k) (payloadLength z) 2 file (omega arith) ∙ b .0) (omega (arith, whole-records z c l .1)), b .1)
+        inr (cut-at z (take c file) k (omega arith) (headIs-take c (recordStart z k) (payloadLength z) 2 file (omega arith) ∙ b .0) (omega (arith, whole-records z c l .1)), b .1)
 
 -- a cut before the end of the positions that stand
-pub cut→read : (file : List ℕ) (z : Sizes) (n c : ℕ) → Standing file z n → 14 ≤ c → c ≤ positionAt z n → readOf (take c file) ≡ SessionRead z ((c - 14) / recordLength z)
+pub cut→read : (file : List ℕ) (z : Sizes) (n c : ℕ) → Standing file z n → 14 ≤ c → c ≤ recordStart z n → readOf (take c file) ≡ SessionRead z ((c - 14) / recordLength z)
 cut→read file z n c s l h = tail→read file z n c s l (omega (arith, s .inside)) (omega arith) (λ b. absurd (omega arith))
 
 -- without the whole first record a file is refused at byte 0

@@ -15,7 +15,7 @@ use Rattle.records.specs.Records.{headIs}
 use Rattle.records.proofs.Places.{f32At-take, headIs-take}
 use Rattle.session_file.specs.declared.Sizes.{Sizes}
 use Rattle.session_file.specs.Below.{joined}
-use Rattle.session_file.specs.Sizes.{sizesHold, mostPositions, rowsOf, pairLength, payloadLength, recordLength, positionAt}
+use Rattle.session_file.specs.Sizes.{sizesHold, mostPositions, rowsOf, pairLength, payloadLength, recordLength, recordStart}
 use Rattle.session_file.specs.Form.{Session, sessionOf, positionBytes, sizesBytes}
 use Rattle.session_file.specs.Reader.{positionFault, firstWhole, sizesAt, cacheAt, sessionAt}
 use Rattle.session_file.proofs.Joined.{length-joined, joined-split}
@@ -46,7 +46,7 @@ begun-stands z h = record {
 -- ---- positions behind a file in which positions stand
 
 -- the positions of `later` behind those of a file that ends with its last one
-module _ (old : List ℕ) (n : ℕ) (later : Session) (s : Standing old (later .sizes) n) (ends : length old ≡ positionAt (later .sizes) n) (w : Savable later) (most : n + later .positions ≤ mostPositions) where
+module _ (old : List ℕ) (n : ℕ) (later : Session) (s : Standing old (later .sizes) n) (ends : length old ≡ recordStart (later .sizes) n) (w : Savable later) (most : n + later .positions ≤ mostPositions) where
   abbrev z : Sizes
   z = later .sizes
 
@@ -56,10 +56,10 @@ module _ (old : List ℕ) (n : ℕ) (later : Session) (s : Standing old (later .
   abbrev both : List ℕ
   both = old ++ added
 
-  old-is : take (positionAt z n) both ≡ old
-  old-is = take-at old added (positionAt z n) ends
+  old-is : take (recordStart z n) both ≡ old
+  old-is = take-at old added (recordStart z n) ends
 
-  pub length-both : length both ≡ positionAt z (n + later .positions)
+  pub length-both : length both ≡ recordStart z (n + later .positions)
   length-both = omega (arith, length-append old added, ends, length-joined (positionBytes later) (recordLength z) (later .positions) (length-position later w), add-mul n (later .positions) (recordLength z))
 
   -- position q of those behind, with what stands before it and behind it
@@ -75,41 +75,41 @@ module _ (old : List ℕ) (n : ℕ) (later : Session) (s : Standing old (later .
         ap (λ (t : List ℕ). old ++ t) (joined-split (positionBytes later) (later .positions) q h .1)
         ∙ sym (append-assoc old (joined (positionBytes later) q) (positionBytes later q ++ behind))
 
-    long-before : length before ≡ positionAt z (n + q)
+    long-before : length before ≡ recordStart z (n + q)
     long-before =
         omega (arith, length-append old (joined (positionBytes later) q), ends, length-joined (positionBytes later) (recordLength z) q (λ i l. length-position later w i (omega arith)), add-mul n q (recordLength z))
 
-  inside : positionAt z n ≤ length both
+  inside : recordStart z n ≤ length both
   inside = omega (arith, length-append old added, ends)
 
-  head-both : (p : ℕ) → Dec (p < n) → p < n + later .positions → headIs both (positionAt z p) (payloadLength z) 2 ≡ true
+  head-both : (p : ℕ) → Dec (p < n) → p < n + later .positions → headIs both (recordStart z p) (payloadLength z) 2 ≡ true
   head-both p (yes a) l =
       let e = record-end z p n a in
-      sym (headIs-take (positionAt z n) (positionAt z p) (payloadLength z) 2 both (omega arith))
-      ∙ ap (λ (t : List ℕ). headIs t (positionAt z p) (payloadLength z) 2) old-is
+      sym (headIs-take (recordStart z n) (recordStart z p) (payloadLength z) 2 both (omega arith))
+      ∙ ap (λ (t : List ℕ). headIs t (recordStart z p) (payloadLength z) 2) old-is
       ∙ s .heads p a
   head-both p (no a) l =
       let q = p - n in
       let h : q < later .positions = omega arith in
       let m : n + q ≡ p = omega arith in
-      head-stands later w q h both (before q h) (behind q h) (positionAt z p) (stands q h) (long-before q h ∙ ap (positionAt z) m)
+      head-stands later w q h both (before q h) (behind q h) (recordStart z p) (stands q h) (long-before q h ∙ ap (recordStart z) m)
 
   fault-both : (p : ℕ) → Dec (p < n) → p < n + later .positions → positionFault z both p ≡ false
   fault-both p (yes a) l =
       let e = record-end z p n a in
-      sym (fault-kept both z (positionAt z n) inside p e)
+      sym (fault-kept both z (recordStart z n) inside p e)
       ∙ ap (λ (t : List ℕ). positionFault z t p) old-is
       ∙ s .sound p a
   fault-both p (no a) l =
       let q = p - n in
       let h : q < later .positions = omega arith in
       let m : n + q ≡ p = omega arith in
-      fault-stands later w q h both (before q h) (behind q h) p (stands q h) (long-before q h ∙ ap (positionAt z) m)
+      fault-stands later w q h both (before q h) (behind q h) p (stands q h) (long-before q h ∙ ap (recordStart z) m)
 
   first-both : firstWhole both ≡ true
   first-both =
       (λ i. le-leb 14 (length both) (omega (arith, inside)) i && headIs both 0 8 1)
-      ∙ sym (headIs-take (positionAt z n) 0 8 1 both (omega arith))
+      ∙ sym (headIs-take (recordStart z n) 0 8 1 both (omega arith))
       ∙ ap (λ (t : List ℕ). headIs t 0 8 1) old-is
       ∙ first→head old (s .first)
 
@@ -117,7 +117,7 @@ module _ (old : List ℕ) (n : ℕ) (later : Session) (s : Standing old (later .
   pub standing-both : Standing both z (n + later .positions)
   standing-both = record {
     first = first-both;
-    sizes = s .sizes ∙ ap sizesAt (sym old-is) ∙ sizes-kept both z (positionAt z n) inside (omega arith);
+    sizes = s .sizes ∙ ap sizesAt (sym old-is) ∙ sizes-kept both z (recordStart z n) inside (omega arith);
     limits = s .limits;
     most = most;
     inside = omega (arith, length-both);
@@ -128,13 +128,13 @@ module _ (old : List ℕ) (n : ℕ) (later : Session) (s : Standing old (later .
   -- ---- the session that stands in all of it
 
   module _ (behind size : ℕ) (fit : behind + size * 4 ≤ pairLength z) (cache : List Float)
-      (cell : (q r k : ℕ) (h : q < later .positions) → r < rowsOf z → k < size → f32At both (positionAt z (n + q) + 6 + r * pairLength z + behind + k * 4) ≡ cacheCell (later .positions) size cache q r k) where
+      (cell : (q r k : ℕ) (h : q < later .positions) → r < rowsOf z → k < size → f32At both (recordStart z (n + q) + 6 + r * pairLength z + behind + k * 4) ≡ cacheCell (later .positions) size cache q r k) where
     cell-both : (p r k : ℕ) → Dec (p < n) → p < n + later .positions → r < rowsOf z → k < size
         → fileCell z both behind p r k ≡ cellBehind n (cacheCell n size (cacheAt z old n behind size)) (cacheCell (later .positions) size cache) p r k
     cell-both p r k (yes a) l hr hk =
         let e = record-end z p n a in
         let f = pair-end z p r hr in
-        sym (f32At-take (positionAt z n) (positionAt z p + 6 + r * pairLength z + behind + k * 4) both (omega arith))
+        sym (f32At-take (recordStart z n) (recordStart z p + 6 + r * pairLength z + behind + k * 4) both (omega arith))
         ∙ ap (λ (t : List ℕ). fileCell z t behind p r k) old-is
         ∙ sym (getD-cache (rowsOf z) n size (fileCell z old behind) p r k a hr hk)
         ∙ ap (λ (t : List Float). cacheCell n size t p r k) (sym (cacheAt-is z old n behind size))
@@ -155,6 +155,6 @@ module _ (old : List ℕ) (n : ℕ) (later : Session) (s : Standing old (later .
   pub session-both : sessionAt z both (n + later .positions) ≡ bothOf (sessionAt z old n) later
   unfolding sessionAt bothOf
   session-both =
-      let keys = cache-both 0 (z .size) (omega arith) (later .keys) (λ q r k h hr hk. key-stands later w q h both (before q h) (behind q h) (positionAt z (n + q)) (stands q h) (long-before q h) r hr k hk) in
-      let values = cache-both (z .size * 4) (z .vsize) (omega arith) (later .values) (λ q r k h hr hk. value-stands later w q h both (before q h) (behind q h) (positionAt z (n + q)) (stands q h) (long-before q h) r hr k hk) in
+      let keys = cache-both 0 (z .size) (omega arith) (later .keys) (λ q r k h hr hk. key-stands later w q h both (before q h) (behind q h) (recordStart z (n + q)) (stands q h) (long-before q h) r hr k hk) in
+      let values = cache-both (z .size * 4) (z .vsize) (omega arith) (later .values) (λ q r k h hr hk. value-stands later w q h both (before q h) (behind q h) (recordStart z (n + q)) (stands q h) (long-before q h) r hr k hk) in
       λ i. sessionOf z (n + later .positions) (keys i) (values i)

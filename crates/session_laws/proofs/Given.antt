@@ -15,48 +15,48 @@ use Rattle.records.specs.Numbers.{u32At, f32At}
 use Rattle.records.proofs.Places.{f32At-take}
 use Rattle.session_file.specs.declared.Sizes.{Sizes}
 use Rattle.session_file.specs.declared.Reading.the-variants.{SessionRead}
-use Rattle.session_file.specs.Sizes.{rowsOf, pairLength, recordLength, positionAt}
+use Rattle.session_file.specs.Sizes.{rowsOf, pairLength, recordLength, recordStart}
 use Rattle.session_file.specs.Form.{Session, sessionOf}
 use Rattle.session_file.specs.Reader.{positionFault, payloadFault, readOf, cacheAt, sessionAt}
 use Rattle.session_file.proofs.Below.{none→each}
 use Rattle.session_file.proofs.Walks.{Standing, read→standing}
-use Rattle.session_laws.specs.Sessions.{AllWithin, Savable, cacheCell, cacheOf, firstOf}
+use Rattle.session_laws.specs.Sessions.{AllWithin, Savable, cacheCell, cacheOf, firstPositions}
 use Rattle.session_laws.proofs.Caches.{length-cache, getD-cache, cache-ext, by-cells, cache-of-cells}
 use Rattle.session_laws.proofs.Cuts.{record-end}
 
 -- the element of a file in row r of position p, `behind` bytes into its pair of rows
 abbrev pub fileCell : Sizes → List ℕ → (behind p r k : ℕ) → Float
-fileCell z file behind p r k = f32At file (positionAt z p + 6 + r * pairLength z + behind + k * 4)
+fileCell z file behind p r k = f32At file (recordStart z p + 6 + r * pairLength z + behind + k * 4)
 
 pub cacheAt-is : (z : Sizes) (file : List ℕ) (n behind size : ℕ) → cacheAt z file n behind size ≡ cacheOf (rowsOf z) n size (fileCell z file behind)
 unfolding cacheAt cacheOf
 cacheAt-is z file n behind size = refl
 
 -- a pair of rows ends inside its record
-pub pair-end : (z : Sizes) (p r : ℕ) → r < rowsOf z → positionAt z p + 6 + r * pairLength z + pairLength z ≤ positionAt z p + recordLength z
+pub pair-end : (z : Sizes) (p r : ℕ) → r < rowsOf z → recordStart z p + 6 + r * pairLength z + pairLength z ≤ recordStart z p + recordLength z
 pair-end z p r h = omega (arith, suc-mul r (pairLength z), mul-le-mul-right (pairLength z) h)
 
 -- ---- a cut
 
-module _ (z : Sizes) (file : List ℕ) (n k c behind size : ℕ) (h : k ≤ n) (e : positionAt z k ≤ c) (fit : behind + size * 4 ≤ pairLength z) where
+module _ (z : Sizes) (file : List ℕ) (n k c behind size : ℕ) (h : k ≤ n) (e : recordStart z k ≤ c) (fit : behind + size * 4 ≤ pairLength z) where
   cache-cut : cacheAt z (take c file) k behind size ≡ cacheOf (rowsOf z) k size (cacheCell n size (cacheAt z file n behind size))
   cache-cut =
       cacheAt-is z (take c file) k behind size
       ∙ cache-ext (rowsOf z) k size (fileCell z (take c file) behind) (cacheCell n size (cacheAt z file n behind size)) (λ p r j hp hr hj.
       let a = record-end z p k hp in
       let b = pair-end z p r hr in
-      f32At-take c (positionAt z p + 6 + r * pairLength z + behind + j * 4) file (omega arith)
+      f32At-take c (recordStart z p + 6 + r * pairLength z + behind + j * 4) file (omega arith)
       ∙ sym (getD-cache (rowsOf z) n size (fileCell z file behind) p r j (omega arith) hr hj)
       ∙ ap (λ (t : List Float). cacheCell n size t p r j) (sym (cacheAt-is z file n behind size)))
 
 -- the first positions of the session that stands in a file are those of its cut
-pub session-cut : (z : Sizes) (file : List ℕ) (n k c : ℕ) → k ≤ n → positionAt z k ≤ c → sessionAt z (take c file) k ≡ firstOf (sessionAt z file n) k
-unfolding sessionAt firstOf
+pub session-cut : (z : Sizes) (file : List ℕ) (n k c : ℕ) → k ≤ n → recordStart z k ≤ c → sessionAt z (take c file) k ≡ firstPositions (sessionAt z file n) k
+unfolding sessionAt firstPositions
 session-cut z file n k c h e = λ i. sessionOf z k (cache-cut z file n k c 0 (z .size) h e (omega arith) i) (cache-cut z file n k c (z .size * 4) (z .vsize) h e (omega arith) i)
 
 -- all positions of a session are the session
-pub first-all : (s : Session) → Savable s → firstOf s (s .positions) ≡ s
-unfolding firstOf
+pub first-all : (s : Session) → Savable s → firstPositions s (s .positions) ≡ s
+unfolding firstPositions
 first-all s w =
     let z = s .sizes in
     let n = s .positions in
@@ -72,9 +72,9 @@ f32At-fits s i = ofBits-fits binary32 (u32At s i)
 
 module _ (z : Sizes) (file : List ℕ) (n : ℕ) (s : Standing file z n) where
   -- no element of a position that stands is at fault
-  element-sound : (p i : ℕ) → p < n → i < rowsOf z * (z .size + z .vsize) → elementFault (f32At file (positionAt z p + 6 + i * 4)) ≡ false
+  element-sound : (p i : ℕ) → p < n → i < rowsOf z * (z .size + z .vsize) → elementFault (f32At file (recordStart z p + 6 + i * 4)) ≡ false
   unfolding positionFault
-  element-sound p i hp hi = none→each (payloadFault file (positionAt z p + 6)) (rowsOf z * (z .size + z .vsize)) (s .sound p hp) i hi
+  element-sound p i hp hi = none→each (payloadFault file (recordStart z p + 6)) (rowsOf z * (z .size + z .vsize)) (s .sound p hp) i hi
 
   module _ (before size : ℕ) (fit : before + size ≤ z .size + z .vsize) where
     pub cell-sound : (p r k : ℕ) → p < n → r < rowsOf z → k < size → elementFault (fileCell z file (before * 4) p r k) ≡ false
@@ -83,7 +83,7 @@ module _ (z : Sizes) (file : List ℕ) (n : ℕ) (s : Standing file z n) where
         let i = r * w + (before + k) in
         let m : r * w * 4 ≡ r * pairLength z = mul-assoc r w 4 in
         let d : (r * w + (before + k)) * 4 ≡ r * w * 4 + (before + k) * 4 = add-mul (r * w) (before + k) 4 in
-        let a : positionAt z p + 6 + i * 4 ≡ positionAt z p + 6 + r * pairLength z + before * 4 + k * 4 = omega arith in
+        let a : recordStart z p + 6 + i * 4 ≡ recordStart z p + 6 + r * pairLength z + before * 4 + k * 4 = omega arith in
         ap (λ (j : ℕ). elementFault (f32At file j)) (sym a) ∙ element-sound p i hp (digits-lt hr (omega arith))
 
     cells-within : AllWithin (cacheAt z file n (before * 4) size)

@@ -14,7 +14,7 @@ use Rattle.session_file.specs.declared.Reading.{Reading}
 use Rattle.session_file.specs.declared.Reading.the-variants.{SessionRead, NotRead}
 use Rattle.session_file.specs.declared.Saving.the-variants.{Saved}
 use Rattle.session_file.specs.Below.{leastFrom, joined}
-use Rattle.session_file.specs.Sizes.{sizesHold, mostPositions, positionAt}
+use Rattle.session_file.specs.Sizes.{sizesHold, mostPositions, recordStart}
 use Rattle.session_file.specs.Form.{Session, sessionOf, positionBytes, sizesBytes}
 use Rattle.session_file.specs.Reader.{Loaded, loaded, cachesFit, readOf, sessionAt, loadedOf, loadOf}
 use Rattle.session_file.specs.Writer.{Written, written, refusedWith, rowsFault, beginOf, writtenBehind, appendedTo, appendOf}
@@ -37,7 +37,7 @@ unfolding writtenBehind
 keeps-found (at p) buffer n new = λ e. refl
 keeps-found nothing buffer n new =
     let m = n + new .positions in
-    keeps-cond buffer (leb (positionAt (new .sizes) m) (length buffer)) (written (Saved m (positionAt (new .sizes) m)) (writtenAt buffer (positionAt (new .sizes) n) (joined (positionBytes new) (new .positions)))) Room (keeps-saved buffer _ m (positionAt (new .sizes) m))
+    keeps-cond buffer (leb (recordStart (new .sizes) m) (length buffer)) (written (Saved m (recordStart (new .sizes) m)) (writtenAt buffer (recordStart (new .sizes) n) (joined (positionBytes new) (new .positions)))) Room (keeps-saved buffer _ m (recordStart (new .sizes) m))
 
 keeps-read : (r : Reading) (buffer : List ℕ) (count : ℕ) (keys values : List Float) → Keeps buffer (appendedTo r buffer count keys values)
 unfolding appendedTo

@@ -17,7 +17,7 @@ use Rattle.session_file.specs.declared.Reading.the-variants.{SessionRead, NotRe
 use Rattle.session_file.specs.declared.Saving.{Saving}
 use Rattle.session_file.specs.declared.Saving.the-variants.{Saved, NotSaved}
 use Rattle.session_file.specs.Below.{leastFrom, joined}
-use Rattle.session_file.specs.Sizes.{mostPositions, positionAt}
+use Rattle.session_file.specs.Sizes.{mostPositions, recordStart}
 use Rattle.session_file.specs.Form.{Session, sessionOf, positionBytes}
 use Rattle.session_file.specs.Reader.{readOf, cachesFit}
 use Rattle.session_file.specs.Writer.{Written, written, refusedWith, rowsFault, writtenBehind, appendedTo, appendOf}
@@ -31,10 +31,10 @@ pub record Passed (buffer : List ℕ) (used count : ℕ) (keys values : List Flo
   pub most : n + count ≤ mostPositions
   pub fit : cachesFit z count (length keys) (length values) ≡ true
   pub sound : leastFrom (rowsFault (sessionOf z count keys values)) count 0 ≡ nothing
-  pub room : positionAt z (n + count) ≤ length buffer
+  pub room : recordStart z (n + count) ≤ length buffer
   pub total : n + count ≡ m
-  pub end : positionAt z (n + count) ≡ u
-  pub buffer-left : writtenAt buffer (positionAt z n) (joined (positionBytes (sessionOf z count keys values)) count) ≡ left
+  pub end : recordStart z (n + count) ≡ u
+  pub buffer-left : writtenAt buffer (recordStart z n) (joined (positionBytes (sessionOf z count keys values)) count) ≡ left
 
 abbrev pub isSaved : Saving → Bool
 isSaved (Saved n u) = true
@@ -56,8 +56,8 @@ module _ (buffer : List ℕ) (used count : ℕ) (keys values : List Float) (m u 
     abbrev new : Session
     new = sessionOf z count keys values
 
-    room-by : leastFrom (rowsFault new) count 0 ≡ nothing → (b : Bool) → leb (positionAt z (n + count)) (length buffer) ≡ b
-        → cond b (written (Saved (n + count) (positionAt z (n + count))) (writtenAt buffer (positionAt z n) (joined (positionBytes new) count))) (refusedWith Room buffer) ≡ written (Saved m u) left
+    room-by : leastFrom (rowsFault new) count 0 ≡ nothing → (b : Bool) → leb (recordStart z (n + count)) (length buffer) ≡ b
+        → cond b (written (Saved (n + count) (recordStart z (n + count))) (writtenAt buffer (recordStart z n) (joined (positionBytes new) count))) (refusedWith Room buffer) ≡ written (Saved m u) left
         → Passed buffer used count keys values m u left
     room-by s true p e = record {
       z = z;
@@ -67,7 +67,7 @@ module _ (buffer : List ℕ) (used count : ℕ) (keys values : List Float) (m u 
       most = l;
       fit = f;
       sound = s;
-      room = leb-true (positionAt z (n + count)) (length buffer) p;
+      room = leb-true (recordStart z (n + count)) (length buffer) p;
       total = ap (λ (w : Written). positionsIn (w .answer)) e;
       end = ap (λ (w : Written). bytesIn (w .answer)) e;
       buffer-left = ap (λ (w : Written). w .buffer) e;
@@ -77,7 +77,7 @@ module _ (buffer : List ℕ) (used count : ℕ) (keys values : List Float) (m u 
     fault-by : (found : Found) → leastFrom (rowsFault new) count 0 ≡ found → writtenBehind found buffer n new ≡ written (Saved m u) left → Passed buffer used count keys values m u left
     unfolding writtenBehind
     fault-by (at p) s e = not-saved (Position (n + p)) buffer m u left e
-    fault-by nothing s e = room-by s (leb (positionAt z (n + count)) (length buffer)) refl e
+    fault-by nothing s e = room-by s (leb (recordStart z (n + count)) (length buffer)) refl e
 
   module _ (z : Sizes) (n : ℕ) (h : used ≤ length buffer) (r : readOf (take used buffer) ≡ SessionRead z n) where
     fit-by : n + count ≤ mostPositions → (b : Bool) → cachesFit z count (length keys) (length values) ≡ b

@@ -18,7 +18,7 @@ use Rattle.session_file.specs.declared.Sizes.{Sizes}
 use Rattle.session_file.specs.declared.Next.{Next}
 use Rattle.session_file.specs.declared.Next.the-variants.{Ended, Wrong, Cut, Whole}
 use Rattle.session_file.specs.declared.Reading.the-variants.{NotRead}
-use Rattle.session_file.specs.Sizes.{sizesHold, mostPositions, payloadLength, recordLength, positionAt}
+use Rattle.session_file.specs.Sizes.{sizesHold, mostPositions, payloadLength, recordLength, recordStart}
 use Rattle.session_file.specs.Reader.{nextOf, positionFault, atMost, onward, walkFrom, sizesAt, firstWhole, readOf}
 use Rattle.session_file.proofs.Walks.{Standing, whole→record, cut→record, Fault, refused→standing}
 use Rattle.session_laws.specs.Statements.{RefusedHolds}
@@ -70,15 +70,15 @@ wrong-by false true true e = absurd (true≢false (sym e))
 wrong-by false true false e = absurd (true≢false (sym e))
 wrong-by false false c e = (refl, refl)
 
-wrong→head : (z : Sizes) (file : List ℕ) (p : ℕ) → nextOf z file p ≡ Wrong → (positionAt z p + 6 ≤ length file) × (headIs file (positionAt z p) (payloadLength z) 2 ≡ false)
+wrong→head : (z : Sizes) (file : List ℕ) (p : ℕ) → nextOf z file p ≡ Wrong → (recordStart z p + 6 ≤ length file) × (headIs file (recordStart z p) (payloadLength z) 2 ≡ false)
 unfolding nextOf
 wrong→head z file p e =
-    let w = wrong-by (ltb (length file) (positionAt z p + 6)) (headIs file (positionAt z p) (payloadLength z) 2) (ltb (length file) (positionAt z p + recordLength z)) (ap isWrong e) in
+    let w = wrong-by (ltb (length file) (recordStart z p + 6)) (headIs file (recordStart z p) (payloadLength z) 2) (ltb (length file) (recordStart z p + recordLength z)) (ap isWrong e) in
     (ltb-false _ _ (w .0), w .1)
 
-wrong-at : (z : Sizes) (file : List ℕ) (p : ℕ) → positionAt z p + 6 ≤ length file → headIs file (positionAt z p) (payloadLength z) 2 ≡ false → nextOf z file p ≡ Wrong
+wrong-at : (z : Sizes) (file : List ℕ) (p : ℕ) → recordStart z p + 6 ≤ length file → headIs file (recordStart z p) (payloadLength z) 2 ≡ false → nextOf z file p ≡ Wrong
 unfolding nextOf
-wrong-at z file p a h = rw (le-ltb (length file) (positionAt z p + 6) a, h)
+wrong-at z file p a h = rw (le-ltb (length file) (recordStart z p + 6) a, h)
 
 -- ---- a cut behind the byte that shows the fault
 
@@ -86,30 +86,30 @@ module _ (file : List ℕ) (z : Sizes) (n : ℕ) (s : Standing file z n) (c : �
   long : length (take c file) ≡ c
   long = length-take-le c file inside
 
-  head-kept : positionAt z n + 6 ≤ c → headIs (take c file) (positionAt z n) (payloadLength z) 2 ≡ headIs file (positionAt z n) (payloadLength z) 2
-  head-kept l = headIs-take c (positionAt z n) (payloadLength z) 2 file l
+  head-kept : recordStart z n + 6 ≤ c → headIs (take c file) (recordStart z n) (payloadLength z) 2 ≡ headIs file (recordStart z n) (payloadLength z) 2
+  head-kept l = headIs-take c (recordStart z n) (payloadLength z) 2 file l
 
-  stands : positionAt z n ≤ c → Standing (take c file) z n
+  stands : recordStart z n ≤ c → Standing (take c file) z n
   stands l = standing-cut file z c inside n n (omega arith) s (omega arith) l
 
   -- a whole record with a fault
-  faulty : (r : Refusal) → nextOf z file n ≡ Whole → positionFault z file n ≡ true → n < mostPositions → r ≡ Position n → positionAt z n + recordLength z ≤ c → readOf (take c file) ≡ NotRead r
+  faulty : (r : Refusal) → nextOf z file n ≡ Whole → positionFault z file n ≡ true → n < mostPositions → r ≡ Position n → recordStart z n + recordLength z ≤ c → readOf (take c file) ≡ NotRead r
   faulty r a b m d l =
       let w = whole→record z file n a in
       standing→refused (take c file) z n r (stands (omega arith))
       (inl (whole-at z (take c file) n (head-kept (omega arith) ∙ w .0) (omega (arith, long)), fault-kept file z c inside n l ∙ b, m, d))
 
   -- a wrong head
-  wrong : (r : Refusal) → nextOf z file n ≡ Wrong → r ≡ Record (positionAt z n) → positionAt z n + 6 ≤ c → readOf (take c file) ≡ NotRead r
+  wrong : (r : Refusal) → nextOf z file n ≡ Wrong → r ≡ Record (recordStart z n) → recordStart z n + 6 ≤ c → readOf (take c file) ≡ NotRead r
   wrong r a d l =
       let w = wrong→head z file n a in
       standing→refused (take c file) z n r (stands (omega arith)) (inr (inl (wrong-at z (take c file) n (omega (arith, long)) (head-kept l ∙ w .1), d)))
 
   -- a right head behind 2,048 positions
-  too-many : (r : Refusal) → headIs file (positionAt z n) (payloadLength z) 2 ≡ true → n ≡ mostPositions → r ≡ Limits → positionAt z n + 6 ≤ c → readOf (take c file) ≡ NotRead r
-  too-many r h m d l = standing→refused (take c file) z n r (stands (omega arith)) (inr (inr (right (decLt c (positionAt z n + recordLength z)), m, d)))
+  too-many : (r : Refusal) → headIs file (recordStart z n) (payloadLength z) 2 ≡ true → n ≡ mostPositions → r ≡ Limits → recordStart z n + 6 ≤ c → readOf (take c file) ≡ NotRead r
+  too-many r h m d l = standing→refused (take c file) z n r (stands (omega arith)) (inr (inr (right (decLt c (recordStart z n + recordLength z)), m, d)))
     where
-      right : Dec (c < positionAt z n + recordLength z) → (nextOf z (take c file) n ≡ Cut) ⊎ (nextOf z (take c file) n ≡ Whole)
+      right : Dec (c < recordStart z n + recordLength z) → (nextOf z (take c file) n ≡ Cut) ⊎ (nextOf z (take c file) n ≡ Whole)
       right (yes a) = inl (cut-at z (take c file) n (omega (arith, long)) (head-kept l ∙ h) (omega (arith, long)))
       right (no a) = inr (whole-at z (take c file) n (head-kept l ∙ h) (omega (arith, long)))
 
@@ -122,11 +122,11 @@ refused-holds file r a b e = let (n, s, f) = refused→standing file r a b e in 
     z : Sizes
     z = sizesAt file
 
-    at-head : (n : ℕ) → Standing file z n → positionAt z n + 6 ≤ length file → (r ≡ Record (positionAt z n)) ⊎ ((r ≡ Limits) × (n ≡ mostPositions))
-        → ((c : ℕ) → positionAt z n + 6 ≤ c → c ≤ length file → readOf (take c file) ≡ NotRead r) → RefusedHolds file z r
+    at-head : (n : ℕ) → Standing file z n → recordStart z n + 6 ≤ length file → (r ≡ Record (recordStart z n)) ⊎ ((r ≡ Limits) × (n ≡ mostPositions))
+        → ((c : ℕ) → recordStart z n + 6 ≤ c → c ≤ length file → readOf (take c file) ≡ NotRead r) → RefusedHolds file z r
     at-head n s l d after = record {
       n = n;
-      shown = positionAt z n + 6;
+      shown = recordStart z n + 6;
       where-shown = inr (d, refl);
       inside = l;
       missing = cut-missing file;
@@ -139,7 +139,7 @@ refused-holds file r a b e = let (n, s, f) = refused→standing file r a b e in 
         let x = whole→record z file n w in
         record {
           n = n;
-          shown = positionAt z n + recordLength z;
+          shown = recordStart z n + recordLength z;
           where-shown = inl (d, refl);
           inside = x .1;
           missing = cut-missing file;

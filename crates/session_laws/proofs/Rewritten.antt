@@ -14,7 +14,7 @@ use Rattle.records.proofs.Numbers.{take-join, u16-bytes, row-bytes}
 use Rattle.records.proofs.Records.{head-bytes}
 use Rattle.session_file.specs.declared.Sizes.{Sizes}
 use Rattle.session_file.specs.Below.{joined}
-use Rattle.session_file.specs.Sizes.{rowsOf, pairLength, payloadLength, recordLength, positionAt}
+use Rattle.session_file.specs.Sizes.{rowsOf, pairLength, payloadLength, recordLength, recordStart}
 use Rattle.session_file.specs.Form.{Session, cacheRow, pairBytes, positionBytes, sizesBytes, fileOf}
 use Rattle.session_file.specs.Reader.{cacheAt, sessionAt}
 use Rattle.session_file.proofs.Elements.{sound→number}
@@ -54,7 +54,7 @@ module _ (file : List ℕ) (z : Sizes) (n : ℕ) (s : Standing file z n) (small 
 
   module _ (p : ℕ) (hp : p < n) where
     abbrev at : ℕ
-    at = positionAt z p
+    at = recordStart z p
 
     inside : at + recordLength z ≤ length file
     inside = omega (arith, record-end z p n hp, s .inside)
@@ -104,7 +104,7 @@ module _ (file : List ℕ) (z : Sizes) (n : ℕ) (s : Standing file z n) (small 
 
   -- ---- the file
 
-  pub rewritten : fileOf found ≡ take (positionAt z n) file
+  pub rewritten : fileOf found ≡ take (recordStart z n) file
   unfolding fileOf sessionAt
   rewritten =
       (λ i. first-bytes i ++ joined-ext (positionBytes found) (λ p. take (recordLength z) (drop (14 + p * recordLength z) file)) n position-back i)

@@ -14,11 +14,11 @@ use Rattle.records.specs.Records.{headIs}
 use Rattle.session_file.specs.declared.Sizes.{Sizes}
 use Rattle.call.specs.declared.Refusal.the-variants.{Record}
 use Rattle.session_file.specs.declared.Reading.the-variants.{SessionRead, NotRead}
-use Rattle.session_file.specs.Sizes.{mostPositions, rowsOf, payloadLength, recordLength, positionAt}
+use Rattle.session_file.specs.Sizes.{mostPositions, rowsOf, payloadLength, recordLength, recordStart}
 use Rattle.session_file.specs.Form.{Session, sessionOf, sizesBytes, fileOf}
 use Rattle.session_file.specs.Reader.{readOf, sessionAt}
 use Rattle.session_file.proofs.Walks.{Standing, Stops, read→standing, read→stops, cut→record, ended→short}
-use Rattle.session_laws.specs.Sessions.{Savable, cacheCell, cacheOf, cellBehind, firstOf, bothOf}
+use Rattle.session_laws.specs.Sessions.{Savable, cacheCell, cacheOf, cellBehind, firstPositions, bothOf}
 use Rattle.session_laws.specs.Statements.{wholeIn, ReadHolds, SavedHolds}
 use Rattle.session_laws.proofs.Caches.{cache-of-cells}
 use Rattle.session_laws.proofs.Cuts.{record-end, ended-at, standing→read, whole-records, tail→read, cut→read, first-missing}
@@ -27,7 +27,7 @@ use Rattle.session_laws.proofs.Rewritten.{rewritten}
 use Rattle.session_laws.proofs.Files.{begun-stands, length-both, standing-both, session-both}
 
 -- no more positions are whole before byte c than stand there
-pub whole-most : (z : Sizes) (n c : ℕ) → 14 ≤ c → c ≤ positionAt z n → wholeIn z c ≤ n
+pub whole-most : (z : Sizes) (n c : ℕ) → 14 ≤ c → c ≤ recordStart z n → wholeIn z c ≤ n
 whole-most z n c l h = go (decLt n (wholeIn z c))
   where
     go : Dec (n < wholeIn z c) → wholeIn z c ≤ n
@@ -35,7 +35,7 @@ whole-most z n c l h = go (decLt n (wholeIn z c))
     go (no a) = omega arith
 
 -- and no fewer than those that end before it
-pub whole-least : (z : Sizes) (n c : ℕ) → positionAt z n ≤ c → n ≤ wholeIn z c
+pub whole-least : (z : Sizes) (n c : ℕ) → recordStart z n ≤ c → n ≤ wholeIn z c
 whole-least z n c h = go (decLt (wholeIn z c) n)
   where
     go : Dec (wholeIn z c < n) → n ≤ wholeIn z c
@@ -47,17 +47,17 @@ cut-missing file c l = first-missing (take c file) (omega (arith, length-take c 
 
 -- what stands behind the last position of a file that is read
 module _ (file : List ℕ) (z : Sizes) (n : ℕ) (e : readOf file ≡ SessionRead z n) where
-  ends-inside : length file < positionAt z n + recordLength z
+  ends-inside : length file < recordStart z n + recordLength z
   ends-inside = go (read→stops file z n e)
     where
-      go : Stops z file n → length file < positionAt z n + recordLength z
+      go : Stops z file n → length file < recordStart z n + recordLength z
       go (inl a) = omega (arith, ended→short z file n a)
       go (inr a) = cut→record z file n (a .0) .1
 
-  tail-head : positionAt z n + 6 ≤ length file → (headIs file (positionAt z n) (payloadLength z) 2 ≡ true) × (n < mostPositions)
+  tail-head : recordStart z n + 6 ≤ length file → (headIs file (recordStart z n) (payloadLength z) 2 ≡ true) × (n < mostPositions)
   tail-head h = go (read→stops file z n e)
     where
-      go : Stops z file n → (headIs file (positionAt z n) (payloadLength z) 2 ≡ true) × (n < mostPositions)
+      go : Stops z file n → (headIs file (recordStart z n) (payloadLength z) 2 ≡ true) × (n < mostPositions)
       go (inl a) = absurd (omega (arith, ended→short z file n a))
       go (inr a) = (cut→record z file n (a .0) .0, a .1)
 
@@ -71,15 +71,15 @@ module _ (file : List ℕ) (z : Sizes) (n : ℕ) (e : readOf file ≡ SessionRea
       go (yes a) = absurd (omega (arith, record-end z n (wholeIn z c) a, whole-records z c l .0, ends-inside))
       go (no a) = omega arith
 
-  read-same : (c : ℕ) → 14 ≤ c → c ≤ length file → sessionAt z (take c file) (wholeIn z c) ≡ firstOf (sessionAt z file n) (wholeIn z c)
+  read-same : (c : ℕ) → 14 ≤ c → c ≤ length file → sessionAt z (take c file) (wholeIn z c) ≡ firstPositions (sessionAt z file n) (wholeIn z c)
   read-same c l h = session-cut z file n (wholeIn z c) c (read-fewer c l h) (whole-records z c l .0)
 
 module _ (file : List ℕ) (z : Sizes) (n : ℕ) (s : Standing file z n) where
-  cut-same : (c : ℕ) → 14 ≤ c → c ≤ positionAt z n → sessionAt z (take c file) (wholeIn z c) ≡ firstOf (sessionAt z file n) (wholeIn z c)
+  cut-same : (c : ℕ) → 14 ≤ c → c ≤ recordStart z n → sessionAt z (take c file) (wholeIn z c) ≡ firstPositions (sessionAt z file n) (wholeIn z c)
   cut-same c l h = session-cut z file n (wholeIn z c) c (whole-most z n c l h) (whole-records z c l .0)
 
   -- a file that ends with its last position is read as those that stand in it
-  pub ends→read : length file ≡ positionAt z n → readOf file ≡ SessionRead z n
+  pub ends→read : length file ≡ recordStart z n → readOf file ≡ SessionRead z n
   ends→read e = standing→read file z n s (inl (ended-at z file n (omega arith)))
 
 -- every reading that gives a session keeps these promises
@@ -100,15 +100,15 @@ module _ (s : Session) (w : Savable s) where
   begun : Standing (sizesBytes z) z 0
   begun = begun-stands z (w .limits)
 
-  begun-ends : length (sizesBytes z) ≡ positionAt z 0
+  begun-ends : length (sizesBytes z) ≡ recordStart z 0
   begun-ends = omega (arith, zero-mul (recordLength z))
 
   some : 0 + n ≤ mostPositions
   some = omega (arith, w .most)
 
-  file-long : length (fileOf s) ≡ positionAt z n
+  file-long : length (fileOf s) ≡ recordStart z n
   unfolding fileOf
-  file-long = length-both (sizesBytes z) 0 s begun begun-ends w some ∙ ap (positionAt z) (zero-add n)
+  file-long = length-both (sizesBytes z) 0 s begun begun-ends w some ∙ ap (recordStart z) (zero-add n)
 
   file-stands : Standing (fileOf s) z n
   unfolding fileOf
@@ -136,5 +136,5 @@ module _ (s : Session) (w : Savable s) where
     same = file-session;
     missing = cut-missing (fileOf s);
     cut = λ c l h. cut→read (fileOf s) z n c file-stands l (omega (arith, file-long));
-    first = λ c l h. cut-same (fileOf s) z n file-stands c l (omega (arith, file-long)) ∙ ap (λ (t : Session). firstOf t (wholeIn z c)) file-session;
+    first = λ c l h. cut-same (fileOf s) z n file-stands c l (omega (arith, file-long)) ∙ ap (λ (t : Session). firstPositions t (wholeIn z c)) file-session;
   }

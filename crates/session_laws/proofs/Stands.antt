@@ -19,7 +19,7 @@ use Rattle.records.proofs.Numbers.{length-rowBytes, row-written}
 use Rattle.records.proofs.Records.{head-written}
 use Rattle.session_file.specs.declared.Sizes.{Sizes}
 use Rattle.session_file.specs.Below.{joined}
-use Rattle.session_file.specs.Sizes.{rowsOf, pairLength, payloadLength, recordLength, positionAt}
+use Rattle.session_file.specs.Sizes.{rowsOf, pairLength, payloadLength, recordLength, recordStart}
 use Rattle.session_file.specs.Form.{Session, cacheRow, pairBytes, positionBytes}
 use Rattle.session_file.specs.Reader.{payloadFault, positionFault}
 use Rattle.session_file.proofs.Below.{each→none}
@@ -185,6 +185,6 @@ module _ (s : Session) (w : Savable s) (p : ℕ) (hp : p < s .positions) where
             ap (λ (m : ℕ). elementFault (f32At file m)) (place ∙ c) ∙ value-sound r (j - z .size) inside b
 
   -- in the place of position q of a file
-  pub fault-stands : (file front back : List ℕ) (q : ℕ) → file ≡ front ++ (positionBytes s p ++ back) → length front ≡ positionAt z q → positionFault z file q ≡ false
+  pub fault-stands : (file front back : List ℕ) (q : ℕ) → file ≡ front ++ (positionBytes s p ++ back) → length front ≡ recordStart z q → positionFault z file q ≡ false
   unfolding positionFault
-  fault-stands file front back q e l = each→none (payloadFault file (positionAt z q + 6)) (rowsOf z * (z .size + z .vsize)) (element-sound file front back (positionAt z q) e l)
+  fault-stands file front back q e l = each→none (payloadFault file (recordStart z q + 6)) (rowsOf z * (z .size + z .vsize)) (element-sound file front back (recordStart z q) e l)

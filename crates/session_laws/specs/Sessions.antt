@@ -34,9 +34,9 @@ unfolding tabulate
 cacheOf rows n size cell = tabulate (rows * n * size) (λ i. cell (i / size % n) (i / size / n) (i % size))
 
 -- the first m positions of a session
-unfoldable pub firstOf : Session → ℕ → Session
+unfoldable pub firstPositions : Session → ℕ → Session
 unfolding cacheOf
-firstOf s m =
+firstPositions s m =
     let z = s .sizes in
     sessionOf z m (cacheOf (rowsOf z) m (z .size) (cacheCell (s .positions) (z .size) (s .keys))) (cacheOf (rowsOf z) m (z .vsize) (cacheCell (s .positions) (z .vsize) (s .values)))
 

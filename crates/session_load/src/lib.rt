@@ -3,7 +3,7 @@ ghost use mathlib.Core.Path.{_≡_};
 ghost use mathlib.Core.Bool.{true, false};
 ghost use Prim.Native.Nat.{ℕ, _+_, _*_, _%_, _≤_, _<_};
 ghost use lib.ListN.{length};
-ghost use Rattle.session_file.specs.Sizes.{sizesHold, rowsOf, positionAt};
+ghost use Rattle.session_file.specs.Sizes.{sizesHold, rowsOf, recordStart};
 ghost use Rattle.session_file.specs.Reader.{positionFault, cacheAt, loaded, loadOf};
 use call::Refusal;
 use session_file::Reading;
@@ -13,7 +13,7 @@ use session_file::Sizes;
 fn load_cache(file: &[u8], sizes: Sizes, n: usize, behind: usize, size: usize, cache: &mut [f32])
     requires { ⌜ sizesHold sizes ≡ true ⌝ }
     requires { ⌜ n ≤ 2048 ⌝ }
-    requires { ⌜ positionAt sizes n ≤ length (now file) ⌝ }
+    requires { ⌜ recordStart sizes n ≤ length (now file) ⌝ }
     requires { ⌜ ((p : ℕ) → p < n → positionFault sizes (now file) p ≡ false) ⌝ }
     requires { ⌜ behind + size * 4 ≤ (sizes .size + sizes .vsize) * 4 ⌝ }
     requires { ⌜ behind % 4 ≡ 0 ⌝ }
@@ -27,7 +27,7 @@ fn load_cache(file: &[u8], sizes: Sizes, n: usize, behind: usize, size: usize, c
     while i < all {
         let p = i / rows;
         let r = i % rows;
-        let from = session_sizes::position_at(sizes, p) + 6 + r * pair + behind;
+        let from = session_sizes::record_start(sizes, p) + 6 + r * pair + behind;
         let to = (r * n + p) * size;
         records_read::read_row(&file[from..from + size * 4], &mut cache[to..to + size]);
         i += 1;

@@ -10,25 +10,25 @@ use lib.ListN.{length}
 use Rattle.records.specs.Records.{headIs}
 use Rattle.session_file.specs.declared.Sizes.{Sizes}
 use Rattle.session_file.specs.declared.Next.the-variants.{Ended, Wrong, Cut, Whole}
-use Rattle.session_file.specs.Sizes.{payloadLength, recordLength, positionAt}
+use Rattle.session_file.specs.Sizes.{payloadLength, recordLength, recordStart}
 use Rattle.session_file.specs.Reader.{nextOf, positionFault, atMost, onward, walkFrom}
 
 module _ (z : Sizes) (file : List ℕ) (p : ℕ) where
-  pub next-ended : length file < positionAt z p + 6 → nextOf z file p ≡ Ended
+  pub next-ended : length file < recordStart z p + 6 → nextOf z file p ≡ Ended
   unfolding nextOf
-  next-ended h = rw (lt-ltb (length file) (positionAt z p + 6) h)
+  next-ended h = rw (lt-ltb (length file) (recordStart z p + 6) h)
 
-  pub next-wrong : positionAt z p + 6 ≤ length file → headIs file (positionAt z p) (payloadLength z) 2 ≡ false → nextOf z file p ≡ Wrong
+  pub next-wrong : recordStart z p + 6 ≤ length file → headIs file (recordStart z p) (payloadLength z) 2 ≡ false → nextOf z file p ≡ Wrong
   unfolding nextOf
-  next-wrong h e = rw (le-ltb (length file) (positionAt z p + 6) h, e)
+  next-wrong h e = rw (le-ltb (length file) (recordStart z p + 6) h, e)
 
-  pub next-cut : positionAt z p + 6 ≤ length file → headIs file (positionAt z p) (payloadLength z) 2 ≡ true → length file < positionAt z p + recordLength z → nextOf z file p ≡ Cut
+  pub next-cut : recordStart z p + 6 ≤ length file → headIs file (recordStart z p) (payloadLength z) 2 ≡ true → length file < recordStart z p + recordLength z → nextOf z file p ≡ Cut
   unfolding nextOf
-  next-cut h e l = rw (le-ltb (length file) (positionAt z p + 6) h, e, lt-ltb (length file) (positionAt z p + recordLength z) l)
+  next-cut h e l = rw (le-ltb (length file) (recordStart z p + 6) h, e, lt-ltb (length file) (recordStart z p + recordLength z) l)
 
-  pub next-whole : positionAt z p + 6 ≤ length file → headIs file (positionAt z p) (payloadLength z) 2 ≡ true → positionAt z p + recordLength z ≤ length file → nextOf z file p ≡ Whole
+  pub next-whole : recordStart z p + 6 ≤ length file → headIs file (recordStart z p) (payloadLength z) 2 ≡ true → recordStart z p + recordLength z ≤ length file → nextOf z file p ≡ Whole
   unfolding nextOf
-  next-whole h e l = rw (le-ltb (length file) (positionAt z p + 6) h, e, le-ltb (length file) (positionAt z p + recordLength z) l)
+  next-whole h e l = rw (le-ltb (length file) (recordStart z p + 6) h, e, le-ltb (length file) (recordStart z p + recordLength z) l)
 
   -- ---- the walk
 

@@ -15,7 +15,7 @@ use Rattle.tensor_laws.proofs.Tabulate.{length-tabulate, getD-tabulate}
 use Rattle.records.specs.Numbers.{u32At, f32At, rowAt}
 use Rattle.records.proofs.Places.{u32At-take, u32At-drop, rowAt-part}
 use Rattle.session_file.specs.declared.Sizes.{Sizes}
-use Rattle.session_file.specs.Sizes.{sizesHold, rowsOf, pairLength, recordLength, positionAt}
+use Rattle.session_file.specs.Sizes.{sizesHold, rowsOf, pairLength, recordLength, recordStart}
 use Rattle.session_file.specs.Reader.{payloadFault, positionFault}
 use Rattle.session_file.proofs.Limits.{sizes→facts}
 use Rattle.session_file.proofs.Below.{none→each}
@@ -23,14 +23,14 @@ use Rattle.session_file.proofs.Elements.{sound→number}
 
 -- where row r of position q begins in the file: the rows begin `behind` bytes into each pair
 abbrev pub rowFrom : Sizes → (behind q r : ℕ) → ℕ
-rowFrom z behind q r = positionAt z q + 6 + r * pairLength z + behind
+rowFrom z behind q r = recordStart z q + 6 + r * pairLength z + behind
 
 -- turn i is row i % rows of position i / rows
 pub record RowFacts (z : Sizes) (n behind size i : ℕ) : Type 0 where
   pub position : i / rowsOf z < n
   pub row : i % rowsOf z < rowsOf z
   pub number : i % rowsOf z * n + i / rowsOf z < rowsOf z * n
-  pub from : rowFrom z behind (i / rowsOf z) (i % rowsOf z) + size * 4 ≤ positionAt z n
+  pub from : rowFrom z behind (i / rowsOf z) (i % rowsOf z) + size * 4 ≤ recordStart z n
   pub to : (i % rowsOf z * n + i / rowsOf z) * size + size ≤ rowsOf z * n * size
 
 pub row-facts : (z : Sizes) (n behind size i : ℕ) → sizesHold z ≡ true → behind + size * 4 ≤ pairLength z → i < rowsOf z * n → RowFacts z n behind size i
@@ -54,9 +54,9 @@ module _ (z : Sizes) (file : List ℕ) (behind size q r k : ℕ) (sound : positi
   element-sound =
       let m = r * (z .size + z .vsize) + (behind / 4 + k) in
       let l : m < rowsOf z * (z .size + z .vsize) = digits-lt {q = r} {m = rowsOf z} {r = behind / 4 + k} {c = z .size + z .vsize} hr (omega arith) in
-      let place : positionAt z q + 6 + m * 4 ≡ rowFrom z behind q r + k * 4 = omega arith in
+      let place : recordStart z q + 6 + m * 4 ≡ rowFrom z behind q r + k * 4 = omega arith in
       subst (λ (i : ℕ). T (not (isNan (f32At file i)))) place
-      (sound→number (f32At file (positionAt z q + 6 + m * 4)) (none→each (payloadFault file (positionAt z q + 6)) (rowsOf z * (z .size + z .vsize)) sound m l))
+      (sound→number (f32At file (recordStart z q + 6 + m * 4)) (none→each (payloadFault file (recordStart z q + 6)) (rowsOf z * (z .size + z .vsize)) sound m l))
 
   -- in the part that is lent
   pub pattern-sound : (from long : ℕ) → from ≡ rowFrom z behind q r → size * 4 ≤ long → T (not (nanBits binary32 (u32At (take long (drop from file)) (k * 4))))

@@ -7,7 +7,7 @@ ghost use Rattle.call.specs.Contents.{elementFault};
 ghost use Rattle.contents.specs.Faults.{indexOr};
 ghost use Rattle.session_file.specs.Below.{numberBelow, leastFrom};
 ghost use Rattle.session_file.specs.Form.{sessionOf, cacheRow};
-ghost use Rattle.session_writer.specs.Fits.{RowFits, CachesFit};
+ghost use Rattle.session_writer.specs.Fits.{CacheRowFits, CachesFit};
 ghost use Rattle.session_file.specs.Writer.{rowsFault};
 use session_file::Sizes;
 
@@ -27,7 +27,7 @@ fn row_faults(row: &[f32]) -> u32
 
 // Row r of position p of a cache of n positions.
 pub fn row(cache: &[f32], n: usize, size: usize, p: usize, r: usize) -> &[f32]
-    requires { ⌜ RowFits n size (length (now cache)) p r ⌝ }
+    requires { ⌜ CacheRowFits n size (length (now cache)) p r ⌝ }
     ensures { λ row. ⌜ now row ≡ cacheRow n size (now (cache .entry)) p r ⌝ }
 {
     let from = (r * n + p) * size;

@@ -2,7 +2,7 @@
 ghost use mathlib.Core.Path.{_≡_};
 ghost use mathlib.Core.Bool.{true};
 ghost use Prim.Native.Nat.{_≤_};
-ghost use Rattle.session_file.specs.Sizes.{sizesHold, payloadLength, positionAt};
+ghost use Rattle.session_file.specs.Sizes.{sizesHold, payloadLength, recordStart};
 ghost use Rattle.session_file.specs.Reader.{cachesFit};
 use session_file::Sizes;
 
@@ -27,10 +27,10 @@ pub fn payload_length(sizes: Sizes) -> usize
 }
 
 // The byte at which the record of position p begins.
-pub fn position_at(sizes: Sizes, p: usize) -> usize
+pub fn record_start(sizes: Sizes, p: usize) -> usize
     requires { ⌜ sizesHold sizes ≡ true ⌝ }
     requires { ⌜ p ≤ 2048 ⌝ }
-    ensures { λ r. ⌜ r ≡ positionAt sizes p ⌝ }
+    ensures { λ r. ⌜ r ≡ recordStart sizes p ⌝ }
 {
     14 + p * (6 + payload_length(sizes))
 }

@@ -15,7 +15,7 @@ fn next(file: &[u8], sizes: Sizes, p: usize) -> Next
     requires { ⌜ p ≤ 2048 ⌝ }
     ensures { λ r. ⌜ r ≡ nextOf sizes (now (file .entry)) p ⌝ }
 {
-    let at = session_sizes::position_at(sizes, p);
+    let at = session_sizes::record_start(sizes, p);
     let long = session_sizes::payload_length(sizes);
     if file.len() < at + 6 {
         return Next::Ended;
@@ -44,7 +44,7 @@ pub fn walk(file: &[u8], sizes: Sizes) -> Reading
                 p += 1;
             }
             Next::Wrong => {
-                let byte = session_sizes::position_at(sizes, p);
+                let byte = session_sizes::record_start(sizes, p);
                 return Reading::NotRead(Refusal::Record { byte });
             }
             Next::Ended => {
@@ -75,7 +75,7 @@ fn at_most(file: &[u8], sizes: Sizes) -> Reading
             positions: 2048,
         },
         Next::Wrong => {
-            let byte = session_sizes::position_at(sizes, 2048);
+            let byte = session_sizes::record_start(sizes, 2048);
             Reading::NotRead(Refusal::Record { byte })
         }
         Next::Cut => Reading::NotRead(Refusal::Limits),

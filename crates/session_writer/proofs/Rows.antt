@@ -22,7 +22,7 @@ use Rattle.session_file.proofs.Below.{none→each, each→none}
 use Rattle.session_file.proofs.Elements.{sound→number}
 use Rattle.session_file.proofs.Joined.{length-joined}
 use Rattle.session_file.proofs.Limits.{SizesFacts, sizes→facts}
-use Rattle.session_writer.specs.Fits.{RowFits, CachesFit}
+use Rattle.session_writer.specs.Fits.{CacheRowFits, CachesFit}
 use Rattle.session_writer.proofs.Counts.{any-some}
 
 -- ---- inside the caches
@@ -35,7 +35,7 @@ row-inside : (rows n size p r : ℕ) → p < n → r < rows → (r * n + p) * si
 row-inside rows n size p r h l = row-end size (r * n + p) (rows * n) (digits-lt l h)
 
 module _ (z : Sizes) (n : ℕ) (keys values : List Float) (fit : CachesFit z n (length keys) (length values)) (p r : ℕ) (h : p < n) (l : r < rowsOf z) where
-  pub key-fits : RowFits n (z .size) (length keys) p r
+  pub key-fits : CacheRowFits n (z .size) (length keys) p r
   key-fits =
       let f = fit→facts fit in
       record {
@@ -46,7 +46,7 @@ module _ (z : Sizes) (n : ℕ) (keys values : List Float) (fit : CachesFit z n (
         inside = omega (arith, row-inside (rowsOf z) n (z .size) p r h l, fit .keys-length);
       }
 
-  pub value-fits : RowFits n (z .vsize) (length values) p r
+  pub value-fits : CacheRowFits n (z .vsize) (length values) p r
   value-fits =
       let f = fit→facts fit in
       record {

@@ -6,7 +6,7 @@ use Rattle.session_file.specs.declared.Sizes.{Sizes}
 use Rattle.session_file.specs.Sizes.{sizesHold, rowsOf}
 
 -- row r of position p is inside a cache of n positions and of that length
-pub record RowFits (n size long p r : ℕ) : Type 0 where
+pub record CacheRowFits (n size long p r : ℕ) : Type 0 where
   pub positions : n ≤ 2048
   pub columns : size ≤ 256
   pub row : r < 256

@@ -11,7 +11,7 @@ use lib.Ieee.Fits.{and-i}
 use Rattle.tensor_laws.specs.Layout.{tabulate}
 use Rattle.tensor_laws.proofs.Tabulate.{length-tabulate, getD-tabulate, tabulate-ext}
 use Rattle.softmax.specs.Row.{scoreOf, fullyMaskedOf, weightOf}
-use Rattle.softmax.specs.Lists.{elementOf, isHidden, isScoreRow, seesOf, scoreRowsOf, softmaxRowOf, maskedRowOf}
+use Rattle.softmax.specs.Lists.{elementOf, isHidden, isScoreRow, seesOf, scoreRowsOf, softmaxRowOf, fullyMaskedRowOf}
 use Rattle.softmax.proofs.Structure.{agree-score, agree-weight, agree-masked}
 use Rattle.softmax.proofs.Scores.{isScore}
 
@@ -42,8 +42,8 @@ module _ (n : ℕ) (f : ℕ → Float) (sees : ℕ → Bool) (score : ℕ → Fl
   score-same j h s = element j h ∙ scores j h (sym (sees-same j h) ∙ s)
 
   -- it is fully masked where the row of the positions seen is
-  pub marked-masked : maskedRowOf (tabulate n f) ≡ fullyMaskedOf n sees score
-  unfolding maskedRowOf
+  pub marked-masked : fullyMaskedRowOf (tabulate n f) ≡ fullyMaskedOf n sees score
+  unfolding fullyMaskedRowOf
   marked-masked =
       ap (λ (m : ℕ). fullyMaskedOf m (seesOf (tabulate n f)) (elementOf (tabulate n f))) (length-tabulate n f)
       ∙ agree-masked n (seesOf (tabulate n f)) sees (elementOf (tabulate n f)) score sees-same score-same

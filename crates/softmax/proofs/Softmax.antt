@@ -17,7 +17,7 @@ use Rattle.tensor_laws.proofs.Tabulate.{length-tabulate, getD-tabulate}
 use Rattle.exponential.specs.ExpNeg.{plusZero, one, expNegOf, expNegRowOf, valueOrZero}
 use Rattle.exponential.proofs.Laws.{InUnit, hasValue, value-at-infinity, length-row, getD-row}
 use Rattle.softmax.specs.Row.{Largest, noneSeen, largest, largestOf, termOf, addWhere, sumOf, weightWhere, weightOf, isNone, fullyMaskedOf}
-use Rattle.softmax.specs.Lists.{elementOf, hidden, isHidden, isScoreRow, seesOf, scoreOrHidden, largestRowOf, totalRowOf, softmaxRowOf, maskedRowOf}
+use Rattle.softmax.specs.Lists.{elementOf, hidden, isHidden, isScoreRow, seesOf, scoreOrHidden, largestRowOf, totalRowOf, softmaxRowOf, fullyMaskedRowOf}
 use Rattle.softmax.proofs.Structure.{masked-unseen, hidden-weight-zero, agree-sum}
 use Rattle.softmax.proofs.Unit.{largest-finite, largest-reached, asked-where-valued, term-in-unit, sum-at-most, sum-at-least-one}
 use Rattle.softmax.proofs.Scores.{isScore, score-at}
@@ -89,8 +89,8 @@ module _ (row : List Float) (scores : T (isScoreRow row)) (short : length row �
   rowLargest = largestOf (length row) (seesOf row) (elementOf row)
 
   -- a fully masked row has the weight +0 throughout
-  pub masked-way : rowLargest ≡ noneSeen → (maskedRowOf row ≡ true) × (replicate (length row) plusZero ≡ softmaxRowOf row)
-  unfolding maskedRowOf fullyMaskedOf softmaxRowOf
+  pub masked-way : rowLargest ≡ noneSeen → (fullyMaskedRowOf row ≡ true) × (replicate (length row) plusZero ≡ softmaxRowOf row)
+  unfolding fullyMaskedRowOf fullyMaskedOf softmaxRowOf
   masked-way e =
       let masked : fullyMaskedOf (length row) (seesOf row) (elementOf row) ≡ true = ap isNone e in
       let weights = weightOf (length row) (seesOf row) (elementOf row) in (
@@ -170,8 +170,8 @@ module _ (row : List Float) (scores : T (isScoreRow row)) (short : length row �
         ∙ ap (λ (x : Float). div binary32 (termAt j) x) sum-is-total
         ∙ quotient j (seesOf row j) refl
 
-    pub seen-way : (maskedRowOf row ≡ false) × (map (λ x. div binary32 x (totalRowOf (expNegRowOf (largestRowOf row) row))) (expNegRowOf (largestRowOf row) row) ≡ softmaxRowOf row)
-    unfolding maskedRowOf fullyMaskedOf softmaxRowOf quotients
+    pub seen-way : (fullyMaskedRowOf row ≡ false) × (map (λ x. div binary32 x (totalRowOf (expNegRowOf (largestRowOf row) row))) (expNegRowOf (largestRowOf row) row) ≡ softmaxRowOf row)
+    unfolding fullyMaskedRowOf fullyMaskedOf softmaxRowOf quotients
     seen-way =
         let weights = weightOf (length row) (seesOf row) (elementOf row) in (
           ap isNone e,
@@ -193,18 +193,18 @@ unfolding eq
 hidden-is-hidden = refl
 
 module _ (row : List Float) (scores : T (isScoreRow row)) (short : length row ≤ 2048) where
-  pub tested-masked : eq (largestRowOf row) hidden ≡ true → (true ≡ maskedRowOf row) × (replicate (length row) plusZero ≡ softmaxRowOf row)
+  pub tested-masked : eq (largestRowOf row) hidden ≡ true → (true ≡ fullyMaskedRowOf row) × (replicate (length row) plusZero ≡ softmaxRowOf row)
   unfolding largestRowOf
   tested-masked h = go (largestOf (length row) (seesOf row) (elementOf row)) refl
     where
-      go : (l : Largest) → largestOf (length row) (seesOf row) (elementOf row) ≡ l → (true ≡ maskedRowOf row) × (replicate (length row) plusZero ≡ softmaxRowOf row)
+      go : (l : Largest) → largestOf (length row) (seesOf row) (elementOf row) ≡ l → (true ≡ fullyMaskedRowOf row) × (replicate (length row) plusZero ≡ softmaxRowOf row)
       go noneSeen e = let w = masked-way row scores short e in (sym (w .0), w .1)
       go (largest m) e = absurd (true≢false (sym h ∙ ap (λ (l : Largest). eq (scoreOrHidden l) hidden) e ∙ not-hidden m (largest-finite (length row) (seesOf row) (elementOf row) (seen-finite row scores) m e)))
 
-  pub tested-seen : eq (largestRowOf row) hidden ≡ false → (false ≡ maskedRowOf row) × (map (λ x. div binary32 x (totalRowOf (expNegRowOf (largestRowOf row) row))) (expNegRowOf (largestRowOf row) row) ≡ softmaxRowOf row)
+  pub tested-seen : eq (largestRowOf row) hidden ≡ false → (false ≡ fullyMaskedRowOf row) × (map (λ x. div binary32 x (totalRowOf (expNegRowOf (largestRowOf row) row))) (expNegRowOf (largestRowOf row) row) ≡ softmaxRowOf row)
   unfolding largestRowOf
   tested-seen h = go (largestOf (length row) (seesOf row) (elementOf row)) refl
     where
-      go : (l : Largest) → largestOf (length row) (seesOf row) (elementOf row) ≡ l → (false ≡ maskedRowOf row) × (map (λ x. div binary32 x (totalRowOf (expNegRowOf (largestRowOf row) row))) (expNegRowOf (largestRowOf row) row) ≡ softmaxRowOf row)
+      go : (l : Largest) → largestOf (length row) (seesOf row) (elementOf row) ≡ l → (false ≡ fullyMaskedRowOf row) × (map (λ x. div binary32 x (totalRowOf (expNegRowOf (largestRowOf row) row))) (expNegRowOf (largestRowOf row) row) ≡ softmaxRowOf row)
       go noneSeen e = absurd (true≢false (sym hidden-is-hidden ∙ ap (λ (l : Largest). eq (scoreOrHidden l) hidden) (sym e) ∙ h))
       go (largest m) e = let w = seen-way row scores short m e in (sym (w .0), w .1)

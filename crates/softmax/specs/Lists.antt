@@ -61,9 +61,9 @@ unfoldable pub softmaxRowOf : List Float → List Float
 unfolding tabulate weightOf
 softmaxRowOf row = tabulate (length row) (weightOf (length row) (seesOf row) (elementOf row))
 
-unfoldable pub maskedRowOf : List Float → Bool
+unfoldable pub fullyMaskedRowOf : List Float → Bool
 unfolding fullyMaskedOf
-maskedRowOf row = fullyMaskedOf (length row) (seesOf row) (elementOf row)
+fullyMaskedRowOf row = fullyMaskedOf (length row) (seesOf row) (elementOf row)
 
 -- ---- the weighted sum
 

@@ -5,7 +5,7 @@ ghost use lib.Dec.{T};
 ghost use lib.ListN.{length};
 ghost use lib.Ieee.{binary32, div};
 ghost use mathlib.Core.List.{map};
-ghost use Rattle.softmax.specs.Lists.{isScoreRow, softmaxRowOf, maskedRowOf, largestRowOf, totalRowOf};
+ghost use Rattle.softmax.specs.Lists.{isScoreRow, softmaxRowOf, fullyMaskedRowOf, largestRowOf, totalRowOf};
 
 // The largest element of a row of scores, and minus infinity where every position is hidden.
 fn largest(row: &[f32]) -> f32
@@ -51,7 +51,7 @@ fn divide_row(row: &mut [f32], x: f32)
 pub fn softmax_row(row: &mut [f32]) -> bool
     requires { ⌜ T (isScoreRow (now row)) ⌝ }
     requires { ⌜ length (now row) ≤ 2048 ⌝ }
-    ensures { λ r. ⌜ (r ≡ maskedRowOf (now (row .entry))) × (now (row .exit) ≡ softmaxRowOf (now (row .entry))) ⌝ }
+    ensures { λ r. ⌜ (r ≡ fullyMaskedRowOf (now (row .entry))) × (now (row .exit) ≡ softmaxRowOf (now (row .entry))) ⌝ }
 {
     let m = largest(row);
     if m == -f32::from_bits(0x7f800000) {

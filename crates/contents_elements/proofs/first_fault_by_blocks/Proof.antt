@@ -10,7 +10,7 @@ use lib.Ieee.{nan}
 use Rattle.call.specs.Contents.{elementFault, tensorFault}
 use Rattle.contents.specs.Faults.{indexOr}
 use Rattle.contents.proofs.Faults.{count-none}
-use Rattle.contents.proofs.Parts.{index-most, joined, length-part, part-clear, rest-index}
+use Rattle.contents.proofs.Parts.{index-most, below-both, length-part, part-clear, rest-index}
 use Rattle.contents_elements.proofs.first_fault_by_blocks.Statement.{statement}
 use Rattle.contents_elements.proofs.first_fault_by_blocks.Tie as tie
 
@@ -54,7 +54,7 @@ loop-again c =
     let a = c .before .before .before .before in
     let t = a .before .before .args .tensor .now in
     let block = part-clear (a .loop .at) (a .loop .at + 64) t (omega arith) (omega arith) (count-none _ (sym (c .before .block-faults .ensures) ∙ c .if1 .left)) in
-    (omega arith, joined (λ k. elementFault (getD t k nan) ≡ false) (a .loop .at) (a .loop .at + 64) (a .loop .inv .1) block)
+    (omega arith, below-both (λ k. elementFault (getD t k nan) ≡ false) (a .loop .at) (a .loop .at + 64) (a .loop .inv .1) block)
 
 mul-first-fault : tie.Need-mul-first-fault Inv-loop μ-loop
 mul-first-fault c = omega arith

@@ -14,7 +14,7 @@ use Rattle.call.specs.Contents.{elementFault, tensorFault}
 use Rattle.call.proofs.Clear.{tensor→clear}
 use Rattle.call.proofs.Facts.{limits→facts}
 use Rattle.contents.specs.Faults.{inPrefix}
-use Rattle.contents.proofs.Parts.{index-found, index-none, part, joined, length-part, part-clear, part-first}
+use Rattle.contents.proofs.Parts.{index-found, index-none, part, below-both, length-part, part-clear, part-first}
 use Rattle.contents.proofs.Groups.{and-false, in-prefix, group-clear, next-group, group-inside, clear→prefix, first→prefix}
 use Rattle.contents_incoming.proofs.first_live_fault.Statement.{statement}
 use Rattle.contents_incoming.proofs.first_live_fault.Tie as tie
@@ -122,7 +122,7 @@ returns c =
     let f = part-first start end t (omega arith) (omega arith) (c .before .first-fault-by-blocks .result) (index-found (tensorFault (part start end t)) (c .before .first-fault-by-blocks .ensures) (omega arith)) in
     let i = start + c .before .first-fault-by-blocks .result in
     let looked = in-prefix (s .call) (s .live .now) (s .heads) (s .unit) (a .loop .group) (l .live-count .result) (l .live-count .ensures) i (omega arith) (omega arith) (f .inside) in
-    rw (first→prefix (s .call) (s .live .now) (s .heads) (s .unit) t i (omega arith) (rw (looked, f .faulty)) (joined (Clear (s .call) (s .live .now) (s .heads) (s .unit) t) start i (a .loop .inv .1) (λ k m b. rw (f .before k m b) (and-false (inPrefix (s .call) (s .live .now) (s .heads) (s .unit) k)))))
+    rw (first→prefix (s .call) (s .live .now) (s .heads) (s .unit) t i (omega arith) (rw (looked, f .faulty)) (below-both (Clear (s .call) (s .live .now) (s .heads) (s .unit) t) start i (a .loop .inv .1) (λ k m b. rw (f .before k m b) (and-false (inPrefix (s .call) (s .live .now) (s .heads) (s .unit) k)))))
 
 add-group : tie.Need-add-group Inv-loop μ-loop
 add-group c = let n = sizes (c .before .before .before .before .before .before .before .before .before) in omega arith
@@ -144,7 +144,7 @@ loop-again c =
     let n = length-part start end t (omega arith) (omega arith) in
     let clear = part-clear start end t (omega arith) (omega arith) (tensor→clear _ (index-none (part start end t) (c .before .first-fault-by-blocks .ensures) (omega arith))) in
     let group = group-clear (s .call) (s .live .now) (s .heads) (s .unit) (a .loop .group) (l .live-count .result) (l .live-count .ensures) t clear in
-    (omega arith, λ k b. joined (Clear (s .call) (s .live .now) (s .heads) (s .unit) t) start (start + span) (a .loop .inv .1) group k (omega (arith, next-group (a .loop .group) span)))
+    (omega arith, λ k b. below-both (Clear (s .call) (s .live .now) (s .heads) (s .unit) t) start (start + span) (a .loop .inv .1) group k (omega (arith, next-group (a .loop .group) span)))
 
 returns-2 : tie.Need-returns-2 Inv-loop μ-loop
 returns-2 c =

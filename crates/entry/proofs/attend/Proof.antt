@@ -62,7 +62,7 @@ returns c =
     let h = c .before .before .before .before .before .before .before .before .before .before .before in
     let s = h .before .before .before .before .before .before .before .before .before .before .before .before .before .before .before .before .before .before .before .args in
     let d = h .all-heads .ensures in
-    λ i. outcomeOf (Done (totalOf (s .call)) (d .blind i)) (outputsOf (d .outputs i) (d .keys i) (d .values i) (d .shown i) (d .weights i))
+    λ i. outcomeOf (Done (totalOf (s .call)) (d .told i)) (outputsOf (d .outputs i) (d .keys i) (d .values i) (d .shown i) (d .weights i))
 
 pub attend-spec : {M : Type 1} → statement M
 attend-spec =

@@ -14,7 +14,7 @@ use Rattle.tables.specs.Power.{powerBits, powerOf}
 use Rattle.tables.proofs.Power.{power-not-nan}
 use Rattle.exponential.specs.ExpNeg.{wholePartOf, restOf, polyOf, belowLimitOf}
 use Rattle.exponential.proofs.Whole.{cut-exact}
-use Rattle.exponential.proofs.HalvedBits.{halved-bits, halved-not-nan}
+use Rattle.exponential.proofs.HalfPowers.{half-power-bits, half-power-not-nan}
 use borrow.Author.Needs.{needs}
 use Rattle.exponential_number.proofs.below_limit.Statement.{statement}
 use Rattle.exponential_number.proofs.below_limit.Tie as tie
@@ -43,14 +43,14 @@ float-from-bits-p-2 : tie.Need-float-from-bits-p-2
 unfolding nanBits
 float-from-bits-p-2 c = tt
 
-sub-halved : tie.Need-sub-halved
-sub-halved c = let n = whole (c .before) in omega arith
+sub-halfpower : tie.Need-sub-halfpower
+sub-halfpower c = let n = whole (c .before) in omega arith
 
-mul-halved : tie.Need-mul-halved
-mul-halved c = search needs
+mul-halfpower : tie.Need-mul-halfpower
+mul-halfpower c = search needs
 
-float-from-bits-halved : tie.Need-float-from-bits-halved
-float-from-bits-halved c = let n = whole (c .before) in halved-not-nan (c .before .whole-part .result / 256) (omega arith)
+float-from-bits-halfpower : tie.Need-float-from-bits-halfpower
+float-from-bits-halfpower c = let n = whole (c .before) in half-power-not-nan (c .before .whole-part .result / 256) (omega arith)
 
 mul-result : tie.Need-mul-result
 mul-result c = search needs
@@ -72,7 +72,7 @@ computed ps n y =
 
 computed-is : (y : Float) → wholePartOf y < 30720 → computed powerBits (wholePartOf y) y ≡ belowLimitOf y
 unfolding computed belowLimitOf ofBits
-computed-is y h = ap (λ (x : Float). mul binary32 (mul binary32 (powerOf (wholePartOf y % 256)) (polyOf (restOf y))) x) (halved-bits (wholePartOf y / 256) (div-lt-iff-lt-mul (lit< tt) .1 h))
+computed-is y h = ap (λ (x : Float). mul binary32 (mul binary32 (powerOf (wholePartOf y % 256)) (polyOf (restOf y))) x) (half-power-bits (wholePartOf y / 256) (div-lt-iff-lt-mul (lit< tt) .1 h))
 
 returns : tie.Need-returns
 unfolding computed
@@ -92,9 +92,9 @@ below-limit-spec =
     int-to-float-rest
     float-from-bits-p
     float-from-bits-p-2
-    sub-halved
-    mul-halved
-    float-from-bits-halved
+    sub-halfpower
+    mul-halfpower
+    float-from-bits-halfpower
     mul-result
     element-copy-out-result
     float-from-bits-result

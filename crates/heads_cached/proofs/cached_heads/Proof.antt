@@ -144,7 +144,7 @@ add-masked c =
     let m = t .before .loop .n * (s .call .qheads / s .call .kvheads) + s .call .qheads / s .call .kvheads in
     let d = h .heads-between .ensures (s .output .now) (s .scores .now) (t .before .loop .masked) (t .before .loop .inv .3) in
     let rows : m * s .call .qlen ≤ 256 * 2048 = mul-le-mul {n₂ = 256} {m₂ = 2048} (omega (arith, group-in t, few-query start)) (within start .qlen-most) in
-    omega (arith, rows, d .blind, count-le (m * s .call .qlen) (maskedNumber (s .call) (inputs start)))
+    omega (arith, rows, d .told, count-le (m * s .call .qlen) (maskedNumber (s .call) (inputs start)))
 
 add-n : tie.Need-add-n Inv-loop μ-loop
 add-n c = let t = c .before .before .before .before .before .before .before .before .before .before .before .before .before .before .before .before .before .before in omega (arith, few (startOf (t .before)), t .loop-test .taken)

@@ -74,17 +74,17 @@ head-rows-requires c κs =
     )
 
 -- no more rows of a head are fully masked than it has
-blind-few : (c : tie.After-head-rows Inv-loop μ-loop) → c .head-rows .result ≤ 2048
-blind-few c =
+masked-few : (c : tie.After-head-rows Inv-loop μ-loop) → c .head-rows .result ≤ 2048
+masked-few c =
     let a = c .before .before .before .before .before in
     let s = startOf a .args in
-    omega (arith, c .head-rows .ensures .blind, count-le (s .call .qlen) (λ n. rowMasked (s .call) (inputs (startOf a)) (a .loop .n / s .call .qheads) (a .loop .n % s .call .qheads) (0 + n)), a .loop .inv .0 .qlen-most)
+    omega (arith, c .head-rows .ensures .told, count-le (s .call .qlen) (λ n. rowMasked (s .call) (inputs (startOf a)) (a .loop .n / s .call .qheads) (a .loop .n % s .call .qheads) (0 + n)), a .loop .inv .0 .qlen-most)
 
 add-masked : tie.Need-add-masked Inv-loop μ-loop
 add-masked c =
     let h = c .before .before .before .before .before .before in
     let t = h .before .before .before .before in
-    omega (arith, few (t .before), inside t, t .before .loop .inv .5, blind-few h)
+    omega (arith, few (t .before), inside t, t .before .loop .inv .5, masked-few h)
 
 add-n : tie.Need-add-n Inv-loop μ-loop
 add-n c = let t = c .before .before .before .before .before .before .before .before .before .before in omega (arith, few (t .before), inside t)
@@ -112,7 +112,7 @@ loop-again c =
       unit-output-long (s .call) (inputs start) b k 0 (s .call .qlen) (a .loop .output) (a .loop .scores) y sc w m d,
       unit-scores-long (s .call) (inputs start) b k 0 (s .call .qlen) (a .loop .output) (a .loop .scores) y sc w m d,
       unit-work-long (s .call) (inputs start) b k 0 (s .call .qlen) (a .loop .output) (a .loop .scores) y sc w m d,
-      omega (arith, a .loop .inv .5, blind-few h),
+      omega (arith, a .loop .inv .5, masked-few h),
       λ y₀ s₀ masked before.
           subst (HeadsTo (s .call) (inputs start) y₀ s₀ (n + 1) y sc w) (add-assoc masked (a .loop .masked) m)
           (head-more (s .call) (inputs start) (a .loop .inv .0) y₀ s₀ n (a .loop .output) (a .loop .scores) (a .loop .work) y sc w (masked + a .loop .masked) m (a .loop .inv .6 y₀ s₀ masked before) (inside t) d),

@@ -11,7 +11,7 @@ use lib.ListN.{length, take, drop, replicate, length-append}
 use lib.Seq.{length-take-le, take-at}
 use lib.Ieee.{Float, ofBits}
 use Rattle.exponential.specs.ExpNeg.{plusZero}
-use Rattle.softmax.specs.Lists.{isScoreRow, softmaxRowOf, maskedRowOf}
+use Rattle.softmax.specs.Lists.{isScoreRow, softmaxRowOf, fullyMaskedRowOf}
 use Rattle.softmax.specs.Cap.{cappedRowWhere}
 use Rattle.softmax.proofs.Positions.{length-softmax}
 use Rattle.softmax.proofs.Cap.{length-under-cap}
@@ -184,7 +184,7 @@ returns c =
     let m = maskOf a in
     record {
       weights = work-is f;
-      told = a .softmax-row .ensures .0 ∙ ap maskedRowOf (taken-is m);
+      told = a .softmax-row .ensures .0 ∙ ap fullyMaskedRowOf (taken-is m);
       shows = d .show .ensures ∙ (λ i. shownWhere (h .shows .ensures i) plusZero (workAfter f) (m .mask-and-cap .ensures .shows i));
     }
 

@@ -184,7 +184,7 @@ tally-of-requires c κs = search needs
 masked-most : (c : At) → c .loop .masked ≤ c .loop .i
 masked-most c =
     let s = startOf c .args in
-    omega (arith, done c .blind, done c .low, count-le (c .loop .i - s .first) (λ n. rowMasked (s .call) (inputs (startOf c)) (s .b) (s .h) (s .first + n)))
+    omega (arith, done c .told, done c .low, count-le (c .loop .i - s .first) (λ n. rowMasked (s .call) (inputs (startOf c)) (s .b) (s .h) (s .first + n)))
 
 add-masked : tie.Need-add-masked Inv-loop μ-loop
 add-masked c =

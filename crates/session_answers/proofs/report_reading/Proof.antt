@@ -8,8 +8,8 @@ use Rattle.session_answers.proofs.report_reading.Tie as tie
 enum-known-reading : tie.Need-enum-known-reading
 enum-known-reading c = search needs
 
-position-at-requires : tie.Need-position-at-requires
-position-at-requires c κs = subst ReadingHolds (c .before .reading .given .1) (c .before .before .before .pre)
+record-start-requires : tie.Need-record-start-requires
+record-start-requires c κs = subst ReadingHolds (c .before .reading .given .1) (c .before .before .before .pre)
 
 enum-known-reading-2 : tie.Need-enum-known-reading-2
 enum-known-reading-2 c = search needs
@@ -21,7 +21,7 @@ place-of-requires : tie.Need-place-of-requires
 place-of-requires c κs = search needs
 
 returns : tie.Need-returns
-returns c = rw (c .before .before .reading .given .1, c .position-at .ensures)
+returns c = rw (c .before .before .reading .given .1, c .record-start .ensures)
 
 returns-2 : tie.Need-returns-2
 returns-2 c = rw (c .before .before .before .reading2 .given .1, c .before .number-of .ensures, c .place-of .ensures)
@@ -31,7 +31,7 @@ report-reading-spec =
     tie.close
     (tie.spec
     enum-known-reading
-    position-at-requires
+    record-start-requires
     enum-known-reading-2
     number-of-requires
     place-of-requires

@@ -71,14 +71,14 @@ returns-3 c =
     let a = startOf (f .before .before .before) .args in
     wrong-element (a .sizes) (a .n) (a .buffer .now) (a .count) (a .keys .now) (a .values .now) (few (f .before .before .before)) (fit (f .before) .0) (f .first-fault .result) (f .first-fault .ensures) (c .if3 .taken)
 
-position-at-requires : tie.Need-position-at-requires
-position-at-requires c κs = search needs
+record-start-requires : tie.Need-record-start-requires
+record-start-requires c κs = search needs
 
-add-position-at : tie.Need-add-position-at
-add-position-at c = search needs
+add-record-start : tie.Need-add-record-start
+add-record-start c = search needs
 
-position-at-requires-2 : tie.Need-position-at-requires-2
-position-at-requires-2 c κs = search needs
+record-start-requires-2 : tie.Need-record-start-requires-2
+record-start-requires-2 c κs = search needs
 
 returns-4 : tie.Need-returns-4
 returns-4 c =
@@ -87,7 +87,7 @@ returns-4 c =
     let f = n .before .before in
     let e = f .before .before in
     let a = startOf e .args in
-    no-room (a .sizes) (a .n) (a .buffer .now) (a .count) (a .keys .now) (a .values .now) (few e) (fit f .0) (none-below n) (omega (arith, t .position-at2 .ensures, c .if4 .taken))
+    no-room (a .sizes) (a .n) (a .buffer .now) (a .count) (a .keys .now) (a .values .now) (few e) (fit f .0) (none-below n) (omega (arith, t .record-start2 .ensures, c .if4 .taken))
 
 sub-write-positions : tie.Need-sub-write-positions
 sub-write-positions c = search needs
@@ -104,9 +104,9 @@ write-positions-requires c κs =
     let n = t .before .before in
     let f = n .before .before in
     let s = startOf (f .before .before) in
-    let from = t .before .position-at .result in
-    let to = t .position-at2 .result in
-    let l = new-length (s .args .sizes) (s .args .n) (s .args .count) from to (t .before .position-at .ensures) (t .position-at2 .ensures) in
+    let from = t .before .record-start .result in
+    let to = t .record-start2 .result in
+    let l = new-length (s .args .sizes) (s .args .n) (s .args .count) from to (t .before .record-start .ensures) (t .record-start2 .ensures) in
     (fit f .1, (index-clear (faultAt s) (s .args .count) (none-below n), length-part from (to - from) (s .args .buffer .now) (omega (arith, l .0, c .before .if4 .left)) ∙ l .1))
 
 add-t13 : tie.Need-add-t13
@@ -123,7 +123,7 @@ returns-5 c =
     let f = n .before .before in
     let e = f .before .before in
     let a = startOf e .args in
-    saved (a .sizes) (a .n) (a .buffer .now) (a .count) (a .keys .now) (a .values .now) (few e) (fit f .0) (none-below n) (fit f .1) (t .before .position-at .result) (t .position-at2 .result) (w .write-positions .last .1 .1 .1 .1 .0) (t .before .position-at .ensures) (t .position-at2 .ensures) (w .before .before .if4 .left) (w .write-positions .ensures)
+    saved (a .sizes) (a .n) (a .buffer .now) (a .count) (a .keys .now) (a .values .now) (few e) (fit f .0) (none-below n) (fit f .1) (t .before .record-start .result) (t .record-start2 .result) (w .write-positions .last .1 .1 .1 .1 .0) (t .before .record-start .ensures) (t .record-start2 .ensures) (w .before .before .if4 .left) (w .write-positions .ensures)
 
 pub append-to-spec : {M : Type 1} → statement M
 append-to-spec =
@@ -136,9 +136,9 @@ append-to-spec =
     first-fault-requires
     add-t16
     returns-3
-    position-at-requires
-    add-position-at
-    position-at-requires-2
+    record-start-requires
+    add-record-start
+    record-start-requires-2
     returns-4
     sub-write-positions
     part-write-positions-start

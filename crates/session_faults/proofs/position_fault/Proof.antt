@@ -13,8 +13,8 @@ use Rattle.session_reader.proofs.Payloads.{part-number}
 use Rattle.session_faults.proofs.position_fault.Statement.{statement}
 use Rattle.session_faults.proofs.position_fault.Tie as tie
 
-position-at-requires : tie.Need-position-at-requires
-position-at-requires c κs = search needs
+record-start-requires : tie.Need-record-start-requires
+record-start-requires c κs = search needs
 
 add-from : tie.Need-add-from
 add-from c = search needs
@@ -38,9 +38,9 @@ payload-faults-requires : tie.Need-payload-faults-requires
 payload-faults-requires c κs =
     let a = c .before in
     let s = a .before .before .before in
-    let from = a .before .position-at .result + 6 in
+    let from = a .before .record-start .result + 6 in
     let f = sizes→facts (s .args .sizes) (s .pre .0) in
-    let e = a .before .position-at .ensures in
+    let e = a .before .record-start .ensures in
     let l = a .payload-length .ensures in
     omega (arith, f .payload, s .pre, length-part from (from + a .payload-length .result - from) (s .args .file .now) (omega (arith, s .pre)))
 
@@ -50,9 +50,9 @@ returns c =
     let a = c .before .before in
     let s = a .before .before .before in
     let z = s .args .sizes in
-    let from = a .before .position-at .result + 6 in
+    let from = a .before .record-start .result + 6 in
     let count = rowsOf z * (z .size + z .vsize) in
-    let e = a .before .position-at .ensures in
+    let e = a .before .record-start .ensures in
     let l = a .payload-length .ensures in
     ap (ltb 0)
     (c .payload-faults .ensures
@@ -63,7 +63,7 @@ pub position-fault-spec : {M : Type 1} → statement M
 position-fault-spec =
     tie.close
     (tie.spec
-    position-at-requires
+    record-start-requires
     add-from
     payload-length-requires
     add-to

@@ -15,7 +15,7 @@ use Rattle.session_reader.proofs.Loads.{LoadedTo, loaded-none, loaded-next, loa
 use Rattle.session_load.proofs.load_cache.Statement.{statement}
 use Rattle.session_load.proofs.load_cache.Tie as tie
 use Rattle.session_load.proofs.load_cache.Proof.Turn.{cellOf, Inv-loop, μ-loop, facts-at, fromOf, toOf, begins, file-part, cache-part}
-use Rattle.session_load.proofs.load_cache.Proof.Bounds.{mul-rows, add-pair, mul-pair, mul-all, div-p, rem-r, position-at-requires, add-from, mul-from, add-from-2, add-from-3, mul-to, add-to, mul-to-2, mul-read-row, add-read-row, sub-read-row, part-read-row-start, part-read-row-end, add-read-row-2, mul-read-row-2, sub-read-row-2, part-read-row-start-2, part-read-row-end-2, add-i}
+use Rattle.session_load.proofs.load_cache.Proof.Bounds.{mul-rows, add-pair, mul-pair, mul-all, div-p, rem-r, record-start-requires, add-from, mul-from, add-from-2, add-from-3, mul-to, add-to, mul-to-2, mul-read-row, add-read-row, sub-read-row, part-read-row-start, part-read-row-end, add-read-row-2, mul-read-row-2, sub-read-row-2, part-read-row-start-2, part-read-row-end-2, add-i}
 mod Turn
 mod Bounds
 
@@ -89,7 +89,7 @@ load-cache-spec =
     loop-holds
     div-p
     rem-r
-    position-at-requires
+    record-start-requires
     add-from
     mul-from
     add-from-2

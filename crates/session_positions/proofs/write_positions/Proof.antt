@@ -5,7 +5,7 @@ use native.Mathlib.Omega.{arith}
 use lib.ListN.{length}
 use Rattle.tensor_laws.proofs.Parts.{length-part, row-end}
 use Rattle.session_file.specs.Sizes.{recordLength}
-use Rattle.session_file.proofs.Limits.{sizes→facts, position-at-most}
+use Rattle.session_file.proofs.Limits.{sizes→facts, record-start-most}
 use Rattle.session_writer.proofs.Positions.{positionsTo, positions-none, length-positionsTo, positions-more, positions-all}
 use Rattle.session_positions.proofs.write_positions.Statement.{statement}
 use Rattle.session_positions.proofs.write_positions.Tie as tie
@@ -42,7 +42,7 @@ inside t =
     let a = t .before in
     let c = startOf a in
     let s = c .args in
-    let most = position-at-most (s .sizes) (s .n) (c .pre .0 .limits) (c .pre .0 .positions) in
+    let most = record-start-most (s .sizes) (s .n) (c .pre .0 .limits) (c .pre .0 .positions) in
     (rw (long-is a, as-long a) (row-end (recordLength (s .sizes)) (a .loop .p) (s .n) (t .loop-test .taken)), omega (arith, as-long a))
 
 payload-length-requires : tie.Need-payload-length-requires Inv-loop μ-loop

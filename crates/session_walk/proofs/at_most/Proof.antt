@@ -17,8 +17,8 @@ enum-told c = search needs
 enum-told-2 : tie.Need-enum-told-2
 enum-told-2 c = search needs
 
-position-at-requires : tie.Need-position-at-requires
-position-at-requires c κs = search needs
+record-start-requires : tie.Need-record-start-requires
+record-start-requires c κs = search needs
 
 enum-told-3 : tie.Need-enum-told-3
 enum-told-3 c = search needs
@@ -36,7 +36,7 @@ returns-2 : tie.Need-returns-2
 returns-2 c =
     let n = c .before .before .before in
     let s = n .before .before .args in
-    (λ j. NotRead (Record (c .position-at .ensures j)))
+    (λ j. NotRead (Record (c .record-start .ensures j)))
     ∙ ap (atMost (s .sizes) 2048) (sym (c .before .enum-told2 .given .1) ∙ n .next .ensures)
     ∙ sym (walk-end (s .sizes) (s .file .now) 2048)
 
@@ -59,7 +59,7 @@ at-most-spec =
     next-requires
     enum-told
     enum-told-2
-    position-at-requires
+    record-start-requires
     enum-told-3
     enum-told-4
     returns

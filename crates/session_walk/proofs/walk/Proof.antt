@@ -73,12 +73,12 @@ loop-again c =
 enum-told-2 : tie.Need-enum-told-2 Inv-loop μ-loop
 enum-told-2 c = search needs
 
-position-at-requires : tie.Need-position-at-requires Inv-loop μ-loop
-position-at-requires c κs = search needs
+record-start-requires : tie.Need-record-start-requires Inv-loop μ-loop
+record-start-requires c κs = search needs
 
 returns-2 : tie.Need-returns-2 Inv-loop μ-loop
 returns-2 c =
-    (λ j. NotRead (Record (c .position-at .ensures j)))
+    (λ j. NotRead (Record (c .record-start .ensures j)))
     ∙ by-next (c .before .before .before) Wrong _ (c .before .enum-told2 .given .1) refl
 
 enum-told-3 : tie.Need-enum-told-3 Inv-loop μ-loop
@@ -118,7 +118,7 @@ walk-spec =
     loop-less
     loop-again
     enum-told-2
-    position-at-requires
+    record-start-requires
     returns-2
     enum-told-3
     returns-3

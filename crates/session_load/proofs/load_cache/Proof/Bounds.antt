@@ -35,8 +35,8 @@ div-p c = let s = c .before .before .before .before .before .before in sizes→f
 pub rem-r : tie.Need-rem-r Inv-loop μ-loop
 rem-r c = let s = c .before .before .before .before .before .before in sizes→facts (s .args .sizes) (s .pre .0) .rows .0
 
-pub position-at-requires : tie.Need-position-at-requires Inv-loop μ-loop
-position-at-requires c κs =
+pub record-start-requires : tie.Need-record-start-requires Inv-loop μ-loop
+record-start-requires c κs =
     let s = c .before .before .before .before .before .before in
     let f = facts-at c in
     (s .pre .0, omega (arith, f .position, s .pre .1 .0))

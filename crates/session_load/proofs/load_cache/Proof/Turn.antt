@@ -33,17 +33,17 @@ facts-at c =
     row-facts (a .sizes) (a .n) (a .behind) (a .size) (c .before .loop .i) (s .pre .0) (s .pre .1 .1 .1 .1 .0) (c .loop-test .taken)
 
 -- the row ends inside the file
-pub inside : (c : tie.After-position-at Inv-loop μ-loop)
+pub inside : (c : tie.After-record-start Inv-loop μ-loop)
     → let s = c .before .before .before .before .before .before .before in
     let i = c .before .before .loop .i in
     let rows = rowsOf (s .args .sizes) in
-    c .position-at .result + 6 + i % rows * ((s .args .sizes .size + s .args .sizes .vsize) * 4) + s .args .behind + s .args .size * 4 ≤ length (s .args .file .now)
+    c .record-start .result + 6 + i % rows * ((s .args .sizes .size + s .args .sizes .vsize) * 4) + s .args .behind + s .args .size * 4 ≤ length (s .args .file .now)
 inside c =
     let s = c .before .before .before .before .before .before .before in
-    omega (arith, facts-at (c .before) .from, c .position-at .ensures, s .pre .1 .1 .0)
+    omega (arith, facts-at (c .before) .from, c .record-start .ensures, s .pre .1 .1 .0)
 
 -- the row ends inside the cache, whose length is as it was
-pub row-number : (c : tie.After-position-at Inv-loop μ-loop)
+pub row-number : (c : tie.After-record-start Inv-loop μ-loop)
     → let s = c .before .before .before .before .before .before .before in
     let i = c .before .before .loop .i in
     let rows = rowsOf (s .args .sizes) in
@@ -56,25 +56,25 @@ row-number c =
     (omega (arith, f .number, rows-most (s .args .sizes) (s .args .n) (s .pre .0) (s .pre .1 .0)), omega (arith, f .to), l ∙ sym m)
 
 -- where the row begins in the file
-abbrev pub fromOf : tie.After-position-at Inv-loop μ-loop → ℕ
+abbrev pub fromOf : tie.After-record-start Inv-loop μ-loop → ℕ
 fromOf c =
     let z = c .before .before .before .before .before .before .before .args .sizes in
-    c .position-at .result + 6 + c .before .before .loop .i % rowsOf z * pairLength z + c .before .before .before .before .before .before .before .args .behind
+    c .record-start .result + 6 + c .before .before .loop .i % rowsOf z * pairLength z + c .before .before .before .before .before .before .before .args .behind
 
-abbrev pub toOf : tie.After-position-at Inv-loop μ-loop → ℕ
+abbrev pub toOf : tie.After-record-start Inv-loop μ-loop → ℕ
 toOf c =
     let a = c .before .before .before .before .before .before .before .args in
     (c .before .before .loop .i % rowsOf (a .sizes) * a .n + c .before .before .loop .i / rowsOf (a .sizes)) * a .size
 
-pub begins : (c : tie.After-position-at Inv-loop μ-loop)
+pub begins : (c : tie.After-record-start Inv-loop μ-loop)
     → let a = c .before .before .before .before .before .before .before .args in
     fromOf c ≡ rowFrom (a .sizes) (a .behind) (c .before .before .loop .i / rowsOf (a .sizes)) (c .before .before .loop .i % rowsOf (a .sizes))
 begins c =
     let a = c .before .before .before .before .before .before .before .args in
-    ap (λ (x : ℕ). x + 6 + c .before .before .loop .i % rowsOf (a .sizes) * pairLength (a .sizes) + a .behind) (c .position-at .ensures)
+    ap (λ (x : ℕ). x + 6 + c .before .before .loop .i % rowsOf (a .sizes) * pairLength (a .sizes) + a .behind) (c .record-start .ensures)
 
 -- the parts that are lent
-pub file-part : (c : tie.After-position-at Inv-loop μ-loop)
+pub file-part : (c : tie.After-record-start Inv-loop μ-loop)
     → let a = c .before .before .before .before .before .before .before .args in
     length (take (fromOf c + a .size * 4 - fromOf c) (drop (fromOf c) (a .file .now))) ≡ a .size * 4
 file-part c =
@@ -82,7 +82,7 @@ file-part c =
     let h = inside c in
     length-part (fromOf c) (fromOf c + a .size * 4 - fromOf c) (a .file .now) (omega arith) ∙ omega arith
 
-pub cache-part : (c : tie.After-position-at Inv-loop μ-loop)
+pub cache-part : (c : tie.After-record-start Inv-loop μ-loop)
     → let a = c .before .before .before .before .before .before .before .args in
     length (take (toOf c + a .size - toOf c) (drop (toOf c) (c .before .before .loop .cache))) ≡ a .size
 cache-part c =

@@ -10,13 +10,13 @@ use lib.Ieee.{binary32, fits, ofBits, toBits, nanBits}
 use lib.Ieee.Bits.{ofBits-toBits}
 use lib.Ieee.Fits.{and-l, and-r}
 use Rattle.tables.proofs.Every.{three}
-use Rattle.exponential.specs.ExpNeg.{halved}
+use Rattle.exponential.specs.ExpNeg.{halfPower}
 
-abbrev pub halvedBits : ℕ → ℕ
-halvedBits k = (127 - k) * 8388608
+abbrev pub halfPowerBits : ℕ → ℕ
+halfPowerBits k = (127 - k) * 8388608
 
 test : ℕ → Bool
-test k = eqb (toBits binary32 (halved k)) (halvedBits k) && fits binary32 (halved k) && not (nanBits binary32 (halvedBits k))
+test k = eqb (toBits binary32 (halfPower k)) (halfPowerBits k) && fits binary32 (halfPower k) && not (nanBits binary32 (halfPowerBits k))
 
 allBelow : ℕ → Bool
 allBelow zero = true
@@ -35,14 +35,14 @@ at (suc n) t k h =
       | inr l ↦ at n (and-r (test n) (allBelow n) t) k l
     ]
 
-split : (k : ℕ) → k < 120 → T (eqb (toBits binary32 (halved k)) (halvedBits k)) × T (fits binary32 (halved k)) × T (not (nanBits binary32 (halvedBits k)))
+split : (k : ℕ) → k < 120 → T (eqb (toBits binary32 (halfPower k)) (halfPowerBits k)) × T (fits binary32 (halfPower k)) × T (not (nanBits binary32 (halfPowerBits k)))
 unfolding test
-split k h = three (eqb (toBits binary32 (halved k)) (halvedBits k)) (fits binary32 (halved k)) (not (nanBits binary32 (halvedBits k))) (at 120 passes k h)
+split k h = three (eqb (toBits binary32 (halfPower k)) (halfPowerBits k)) (fits binary32 (halfPower k)) (not (nanBits binary32 (halfPowerBits k))) (at 120 passes k h)
 
-pub halved-bits : (k : ℕ) → k < 120 → ofBits binary32 (halvedBits k) ≡ halved k
-halved-bits k h =
+pub half-power-bits : (k : ℕ) → k < 120 → ofBits binary32 (halfPowerBits k) ≡ halfPower k
+half-power-bits k h =
     let s = split k h in
-    ap (ofBits binary32) (sym (eqb→eq (toBits binary32 (halved k)) (halvedBits k) (s .0))) ∙ ofBits-toBits binary32 (halved k) (s .1)
+    ap (ofBits binary32) (sym (eqb→eq (toBits binary32 (halfPower k)) (halfPowerBits k) (s .0))) ∙ ofBits-toBits binary32 (halfPower k) (s .1)
 
-pub halved-not-nan : (k : ℕ) → k < 120 → T (not (nanBits binary32 (halvedBits k)))
-halved-not-nan k h = split k h .2
+pub half-power-not-nan : (k : ℕ) → k < 120 → T (not (nanBits binary32 (halfPowerBits k)))
+half-power-not-nan k h = split k h .2
