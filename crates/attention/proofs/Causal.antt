@@ -1,11 +1,13 @@
 -- What a causal call without a mask computes, for any live counts: the output of a row that reaches the position at + i is that over the keys 0 to at + i, all of them seen, where that position is live; and no row is fully masked where each batch has a live position. And what the effective scale depends on. Assumes nothing.
 use mathlib.Core.Path.{_≡_, refl, ap, _∙_}
-use mathlib.Core.Bool.{Bool, true, false, _&&_}
+use mathlib.Core.Bool.{Bool, true, false, _&&_, and-true, and-false}
 use Prim.Native.Nat.{ℕ, zero, suc, _+_, _*_, _≤_, _<_, zero-le}
 use native.Mathlib.Omega.{arith}
 use lib.Dec.{ltb, leb}
 use lib.Ieee.{Float}
 use borrow.Author.Tests.{lt-ltb, le-leb, lt-leb}
+use Rattle.bool_laws.proofs.Counts.{count-none}
+use Rattle.bool_laws.specs.Counts.{tally, countWhere}
 use Rattle.tensor_laws.specs.Layout.{batchAt, headAt, positionAt}
 use Rattle.tensor_laws.proofs.Slots.{batch-lt}
 use Rattle.softmax.specs.Row.{scoreOf, rowOutputOf}
@@ -20,26 +22,12 @@ use Rattle.call.specs.Contents.{liveOf}
 use Rattle.attention.specs.Elements.{keyHeadOf, queryAt, keyAt, valueAt}
 use Rattle.attention.specs.Admission.{maskCell, maskAdmits, causalAdmits, admits}
 use Rattle.attention.specs.Formula.{scaleWhere, effectiveScale, dotScore, withMask, maskedScore, cappedScore, attentionOutput, rowMasked}
-use Rattle.attention.specs.Outcomes.{tally, countWhere, maskedRowsOf}
+use Rattle.attention.specs.Outcomes.{maskedRowsOf}
 
 -- calls with equal scales and head sizes have the same effective scale
 pub scale-same : (c c' : Call) → c .scale ≡ c' .scale → c .size ≡ c' .size → effectiveScale c ≡ effectiveScale c'
 unfolding effectiveScale
 scale-same c c' p q = λ t. scaleWhere (p t) (q t)
-
-pub and-true : (a : Bool) → a && true ≡ a
-and-true true = refl
-and-true false = refl
-
-and-false : (a : Bool) → a && false ≡ false
-and-false true = refl
-and-false false = refl
-
--- where no number below n passes the test, none is counted
-count-none : (n : ℕ) (test : ℕ → Bool) → ((k : ℕ) → k < n → test k ≡ false) → countWhere n test ≡ 0
-unfolding countWhere
-count-none zero test e = refl
-count-none (suc n) test e = ap (λ t. countWhere n test + tally t) (e n (omega arith)) ∙ ap (λ m. m + 0) (count-none n test (λ k l. e k (omega arith)))
 
 -- Of batch b in a call without a mask whose row i reaches the position at + i.
 module _ (c : Call) (x : Inputs) (unmasked : c .mask ≡ NoMask) (b at : ℕ) (reached : (i j : ℕ) → causalAdmits c (liveOf c (x .live) b) i j ≡ leb j (at + i)) where

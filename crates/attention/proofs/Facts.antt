@@ -31,7 +31,7 @@ use Rattle.call.specs.Tensors.{Inputs, Outputs}
 use Rattle.call.specs.Limits.{groupsHold, totalOf, pastAllowed, scaleAllowed}
 use Rattle.call.specs.Lengths.{inCached, inCounted}
 use Rattle.call.specs.Contents.{nothing, countFault, countOf, liveIn, liveOf, tensorFault, lookedAt, incomingFault}
-use Rattle.call.proofs.Clear.{live→clear, element→bounded, tensor→clear, incoming→looked}
+use Rattle.call.proofs.Clear.{live→clear, element→bounded, tensor→clear, incoming→looked, count-most}
 use Rattle.call.proofs.Accepted.{Accepts}
 use Rattle.call.proofs.Facts.{holds, limits→facts, past-allowed, groups→multiple, settings→facts, fit→lengths}
 use Rattle.attention.specs.Elements.{cellAt, keyHeadOf, queryAt, positionCell, keyAt, valueAt}
@@ -47,14 +47,10 @@ incoming-bounded c live size t e i h l = element→bounded (elementOf t i) (inco
 
 -- ---- the live counts
 
-count-le : (total : ℕ) (n : ℤ) → countFault total n ≡ false → countOf n ≤ total
-count-le total (pos n) e = nltb→le total n (subst (λ (b : Bool). T (not b)) (sym e) tt)
-count-le total (negsuc n) e = zero-le
-
 live-in-le : (f : Form) (total batches : ℕ) (live : List ℤ) → length live ≡ inCounted f batches → ((i : ℕ) → i < length live → countFault total (getD live i (pos 0)) ≡ false) → (b : ℕ) → b < batches → liveIn f total live b ≤ total
 live-in-le Plain total batches live e h b l = le-refl total
 live-in-le Cached total batches live e h b l = le-refl total
-live-in-le Counted total batches live e h b l = count-le total (getD live b (pos 0)) (h b (omega arith))
+live-in-le Counted total batches live e h b l = count-most total (getD live b (pos 0)) (h b (omega arith))
 
 -- ---- one position's cell
 

@@ -79,12 +79,8 @@ hundred = number 25 2
 abbrev pub hundredThree : Float
 hundredThree = number 103 0
 
--- -1 and -0
 abbrev pub minusOne : Float
 minusOne = fin true 1 (pos 0)
-
-abbrev pub minusZero : Float
-minusZero = fin true 0 (pos 0)
 
 -- the finite f32 furthest below 0: -(2 ^ 24 - 1) * 2 ^ 104
 abbrev pub least : Float

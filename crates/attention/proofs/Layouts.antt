@@ -5,6 +5,7 @@ use mathlib.Core.List.{[], _∷_}
 use lib.IntN.{pos}
 use lib.ListN.{replicate}
 use lib.Ieee.{nan, binary32, ofBits}
+use Rattle.float_laws.specs.Zero.{minusZero}
 use Rattle.exponential.specs.ExpNeg.{plusZero, one}
 use Rattle.softmax.specs.Lists.{hidden}
 use Rattle.call.specs.declared.Form.the-variants.{Plain, Cached, Counted}
@@ -16,7 +17,7 @@ use Rattle.call.specs.declared.Refusal.the-variants.{Element}
 use Rattle.attention.specs.Outcomes.{attentionOf}
 use Rattle.attention.specs.Calls.{small, lending, tensors, zeros, done}
 use Rattle.attention.specs.Table.{half}
-use Rattle.attention.proofs.LayoutCalls.{two, three, four, five, six, seven, eight, nine, eleven, twelve, thirteen, fourteen, fifteen, sixteen, seventeen, eighteen, thirty, hundred, hundredThree, minusZero, least, tiny, minusTiny, heads, masked, scaled, batched, lendingFloat, lendingLive, gives, shows, room, twoHeads, sharedHead, twoPast, fourHeads, floatMasked, oneLive, causalPair}
+use Rattle.attention.proofs.LayoutCalls.{two, three, four, five, six, seven, eight, nine, eleven, twelve, thirteen, fourteen, fifteen, sixteen, seventeen, eighteen, thirty, hundred, hundredThree, least, tiny, minusTiny, heads, masked, scaled, batched, lendingFloat, lendingLive, gives, shows, room, twoHeads, sharedHead, twoPast, fourHeads, floatMasked, oneLive, causalPair}
 
 -- ---- the ranks and the presents
 

@@ -12,4 +12,3 @@ pub mod CapCalls
 pub mod Lengths
 pub mod Entries
 pub mod StepExamples
-pub mod Counting

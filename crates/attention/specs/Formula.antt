@@ -4,7 +4,7 @@ use mathlib.Core.Bool.{Bool, cond}
 use lib.Dec.{ltb}
 use lib.Ieee.{Float, binary32, add}
 use Rattle.tables.specs.declared.DefaultScale.{DefaultScale}
-use Rattle.tables.specs.declared.DefaultScale.the-variants.{Scale as DefaultIs, NoScale}
+use Rattle.tables.specs.declared.DefaultScale.the-variants.{ScaleIs, NoScale}
 use Rattle.tables.specs.Scale.{defaultScaleOf}
 use Rattle.exponential.specs.ExpNeg.{plusZero}
 use Rattle.softmax.specs.Row.{scoreOf, fullyMaskedOf, weightOf, rowOutputOf}
@@ -24,7 +24,7 @@ use Rattle.attention.specs.Admission.{maskCell, admits}
 -- ---- the scale: as given, or the default for the head size
 
 abbrev pub defaultOr : DefaultScale → Float → Float
-defaultOr (DefaultIs x) y = x
+defaultOr (ScaleIs x) y = x
 defaultOr NoScale y = y
 
 abbrev pub scaleWhere : Scale → ℕ → Float

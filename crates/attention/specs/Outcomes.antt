@@ -3,6 +3,7 @@ use mathlib.Core.List.{List, []}
 use Prim.Native.Nat.{ℕ, zero, suc, _+_, _-_, _*_}
 use mathlib.Core.Bool.{Bool, true, false}
 use lib.Ieee.{Float}
+use Rattle.bool_laws.specs.Counts.{countWhere}
 use Rattle.tensor_laws.specs.Layout.{tabulate, tensorOf, batchAt, headAt, positionAt}
 use Rattle.call.specs.declared.Call.{Call}
 use Rattle.call.specs.declared.Form.{Form}
@@ -54,15 +55,6 @@ unfolding tabulate attentionWeight
 workRow c x = tabulate (totalOf c) (attentionWeight c x (c .batches - 1) (c .qheads - 1) (c .qlen - 1))
 
 -- ---- the number of fully masked rows
-
-abbrev pub tally : Bool → ℕ
-tally true = 1
-tally false = 0
-
--- how many of the first n numbers pass the test
-unfoldable pub countWhere : ℕ → (ℕ → Bool) → ℕ
-countWhere zero test = 0
-countWhere (suc n) test = countWhere n test + tally (test n)
 
 -- over all triples (b, h, i)
 unfoldable pub maskedRowsOf : Call → Inputs → ℕ

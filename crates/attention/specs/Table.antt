@@ -6,7 +6,7 @@ use mathlib.Core.Bool.{false}
 use lib.IntN.{negsuc}
 use lib.Ieee.{Float, fin, binary32, mul, ofBits}
 use Rattle.tables.specs.declared.DefaultScale.{DefaultScale}
-use Rattle.tables.specs.declared.DefaultScale.the-variants.{Scale}
+use Rattle.tables.specs.declared.DefaultScale.the-variants.{ScaleIs}
 use Rattle.tables.specs.Scale.{defaultScaleOf}
 use Rattle.exponential.specs.declared.Exponential.{Exponential}
 use Rattle.exponential.specs.declared.Exponential.the-variants.{Value}
@@ -146,11 +146,11 @@ starredTable =
     ∷ exponentialAt one half
     ∷ exponentialAt limit plusZero
     -- H: D 4, 16, 64, 256 and 2
-    ∷ scaleOf 4 (Scale half)
-    ∷ scaleOf 16 (Scale (fin false 1 (negsuc 1)))
-    ∷ scaleOf 64 (Scale (fin false 1 (negsuc 2)))
-    ∷ scaleOf 256 (Scale (fin false 1 (negsuc 3)))
-    ∷ scaleOf 2 (Scale (ofBits binary32 0x3f3504f3))
+    ∷ scaleOf 4 (ScaleIs half)
+    ∷ scaleOf 16 (ScaleIs (fin false 1 (negsuc 1)))
+    ∷ scaleOf 64 (ScaleIs (fin false 1 (negsuc 2)))
+    ∷ scaleOf 256 (ScaleIs (fin false 1 (negsuc 3)))
+    ∷ scaleOf 2 (ScaleIs (ofBits binary32 0x3f3504f3))
     -- I: heads 0 and 1 use 0, heads 2 and 3 use 1
     ∷ keyHead grouped 0 0
     ∷ keyHead grouped 1 0

@@ -2,19 +2,24 @@
 use mathlib.Core.Path.{_≡_, refl, sym, subst}
 use mathlib.Core.List.{List, []}
 use mathlib.Core.Bool.{Bool, true, false, _&&_, true≢false}
-use Prim.Native.Nat.{ℕ, _<_}
-use lib.IntN.{ℤ, pos}
+use Prim.Native.Nat.{ℕ, _≤_, _<_}
+use lib.IntN.{ℤ, pos, negsuc}
 use lib.Dec.{T}
 use lib.ListN.{length, getD}
 use lib.Ieee.{Float, nan, le, neg}
-use borrow.Author.Tests.{not-false}
+use borrow.Author.Tests.{not-false, ltb-false}
 use Rattle.call.specs.declared.Call.{Call}
 use Rattle.call.specs.Limits.{totalOf}
-use Rattle.call.specs.Contents.{nothing, at, countFault, liveFault, byteFault, byteMaskFault, cellFault, floatMaskFault, elementBound, elementFault, tensorFault, lookedAt, incomingFault}
+use Rattle.call.specs.Contents.{nothing, at, countOf, countFault, liveFault, byteFault, byteMaskFault, cellFault, floatMaskFault, elementBound, elementFault, tensorFault, lookedAt, incomingFault}
 use Rattle.call.specs.Places.{TensorFirst, TensorClear}
 use Rattle.call.proofs.Search.{nothing→clear, clear→nothing, found→first, first→found}
 
 -- ---- 7: live counts
+
+-- a live count that is not at fault is at most the total
+pub count-most : (total : ℕ) (z : ℤ) → countFault total z ≡ false → countOf z ≤ total
+count-most total (pos n) e = ltb-false total n e
+count-most total (negsuc n) e = absurd (true≢false e)
 
 -- nothing is found exactly where no live count is at fault
 pub live→clear : (c : Call) (live : List ℤ) → liveFault c live ≡ nothing → (k : ℕ) → k < length live → countFault (totalOf c) (getD live k (pos 0)) ≡ false

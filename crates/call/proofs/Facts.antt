@@ -8,6 +8,7 @@ use lib.ListN.{length}
 use lib.Ieee.Fits.{and-l, and-r}
 use lib.Ieee.Bits.{is-true}
 use borrow.Author.Tests.{le-leb, eq-eqb}
+use Rattle.bool_laws.proofs.Tests.{four, five, eight}
 use Rattle.call.specs.declared.Call.{Call}
 use Rattle.call.specs.declared.MaskKind.{MaskKind}
 use Rattle.call.specs.declared.MaskKind.the-variants.{NoMask, Boolean, FloatMask}
@@ -24,15 +25,6 @@ holds e = subst T (sym e) tt
 either : (a b : Bool) → T (a || b) → T a ⊎ T b
 either true b t = inl tt
 either false b t = inr t
-
-pub four : (a b c d : Bool) → T (a && b && c && d) → T a × T b × T c × T d
-four true true true true t = (tt, tt, tt, tt)
-
-five : (a b c d e : Bool) → T (a && b && c && d && e) → T a × T b × T c × T d × T e
-five true true true true true t = (tt, tt, tt, tt, tt)
-
-eight : (a b c d e f g h : Bool) → T (a && b && c && d && e && f && g && h) → T a × T b × T c × T d × T e × T f × T g × T h
-eight true true true true true true true true t = (tt, tt, tt, tt, tt, tt, tt, tt)
 
 pub bounds : (lo hi x : ℕ) → T (within lo hi x) → (lo ≤ x) × (x ≤ hi)
 bounds lo hi x t = (leb→le lo x (and-l (leb lo x) (leb x hi) t), leb→le x hi (and-r (leb lo x) (leb x hi) t))

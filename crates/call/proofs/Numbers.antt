@@ -6,6 +6,7 @@ use Prim.Native.Nat.{ℕ, _≤_, _<_}
 use native.Mathlib.Omega.{arith}
 use lib.Dec.{T, leb, nleb→lt}
 use borrow.Author.Tests.{leb-true}
+use Rattle.bool_laws.proofs.Tests.{both-true}
 use Rattle.call.specs.declared.Call.{Call}
 use Rattle.call.specs.declared.Refusal.{Refusal}
 use Rattle.call.specs.declared.Verdict.the-variants.{Refused}
@@ -30,10 +31,6 @@ Steady [] = Unit {0}
 Steady (test r holds ∷ ls) = Steady ls
 Steady (scan r found ∷ ls) = ((i : ℕ) → numberOf (r 0) ≡ numberOf (r i)) × Steady ls
 
-both : (a b : Bool) → (a && b) ≡ true → (a ≡ true) × (b ≡ true)
-both true b e = (refl, e)
-both false b e = absurd (true≢false (sym e))
-
 above : (m n : ℕ) → leb m n ≡ false → n < m
 above m n e = nleb→lt m n (subst (λ b. T (not b)) (sym e) tt)
 
@@ -45,7 +42,7 @@ none-below (l ∷ ls) t n o h k = go (λ s o h. none-below ls s n o h k) (leb (l
   where
     go : ((s : ℕ) → rising s ls ≡ true → n ≤ s → PassesBelow n ls) → (b : Bool) → leb (linkNumber l) 9 ≡ b → cond b (leb t (linkNumber l) && rising (linkNumber l) ls) (rising t ls) ≡ true → PassesBelow n (l ∷ ls)
     go later true e o =
-        let p = both (leb t (linkNumber l)) (rising (linkNumber l) ls) o in
+        let p = both-true (leb t (linkNumber l)) (rising (linkNumber l) ls) o in
         let m = leb-true t (linkNumber l) (p .0) in
         (λ q. absurd (omega arith), later (linkNumber l) (p .1) (omega arith))
     go later false e o = let m = above (linkNumber l) 9 e in (λ q. absurd (omega arith), later t o h)
@@ -56,7 +53,7 @@ unfolding rising
 tail-rising l ls t o = go (leb (linkNumber l) 9) refl o
   where
     go : (b : Bool) → leb (linkNumber l) 9 ≡ b → cond b (leb t (linkNumber l) && rising (linkNumber l) ls) (rising t ls) ≡ true → (s : ℕ) × (rising s ls ≡ true) × (linkNumber l ≤ 9 → s ≡ linkNumber l)
-    go true e o = (linkNumber l, both (leb t (linkNumber l)) (rising (linkNumber l) ls) o .1, λ m. refl)
+    go true e o = (linkNumber l, both-true (leb t (linkNumber l)) (rising (linkNumber l) ls) o .1, λ m. refl)
     go false e o = (t, o, λ m. absurd (let n = above (linkNumber l) 9 e in omega arith))
 
 lowest : (ls : List Link) (t : ℕ) (a : Refusal) → numberOf a ≤ 9 → rising t ls ≡ true → Steady ls → firstOf ls ≡ Refused a → PassesBelow (numberOf a) ls

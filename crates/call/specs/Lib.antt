@@ -1,6 +1,7 @@
 pub mod Parts
 pub mod Answers
 pub mod Tensors
+pub mod Lent
 pub mod Limits
 pub mod Lengths
 pub mod Contents

@@ -16,11 +16,7 @@ use Rattle.call.specs.Limits.{totalOf, pastAllowed, limitsHold}
 use Rattle.call.specs.Lengths.{inCounted, liveLength}
 use Rattle.call.specs.Contents.{nothing, countOf, countFault, liveIn, liveOf, liveFault}
 use Rattle.call.proofs.Facts.{past-allowed}
-use Rattle.call.proofs.Clear.{live→clear}
-
-count-most : (total : ℕ) (z : ℤ) → countFault total z ≡ false → countOf z ≤ total
-count-most total (pos n) e = ltb-false total n e
-count-most total (negsuc n) e = absurd (true≢false e)
+use Rattle.call.proofs.Clear.{count-most, live→clear}
 
 module _ (c : Call) (limits : limitsHold c ≡ true) (counted : c .form ≡ Counted) where
   pub no-past : c .past ≡ 0

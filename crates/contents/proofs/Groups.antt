@@ -1,6 +1,6 @@
 -- K and V of a counted call as groups of which a prefix is looked at: which indices of a group are looked at, and that they are the positions below the live count, at either rank. Assumes nothing.
 use mathlib.Core.Path.{_≡_, refl, sym, ap, _∙_}
-use mathlib.Core.Bool.{Bool, true, false, _&&_, cond}
+use mathlib.Core.Bool.{Bool, true, false, _&&_, cond, and-false}
 use mathlib.Core.List.{List}
 use Prim.Native.Nat.{ℕ, _+_, _*_, _-_, _/_, _%_, _≤_, _<_}
 use native.Mathlib.Nat.{add-mul, one-mul, mul-comm, mul-le-mul-right, div-div-eq-div-mul, div-one, mod-lt, mul-pos}
@@ -20,12 +20,6 @@ use Rattle.call.specs.Limits.{totalOf}
 use Rattle.call.specs.Contents.{nothing, at, elementFault, tensorFault, liveIn, liveOf, lookedAt, incomingFault}
 use Rattle.call.proofs.Search.{clear→nothing, first→found, fault-same}
 use Rattle.contents.specs.Faults.{inPrefix, prefixFault}
-
--- ---- tests
-
-pub and-false : (b : Bool) → (b && false) ≡ false
-and-false true = refl
-and-false false = refl
 
 -- ---- one group
 

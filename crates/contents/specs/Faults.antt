@@ -5,19 +5,15 @@ use Prim.Native.Nat.{ℕ, _+_, _*_, _/_, _%_}
 use lib.Dec.{ltb}
 use lib.IntN.{ℤ}
 use lib.Ieee.{Float}
+use Rattle.bool_laws.specs.Counts.{tally}
 use Rattle.call.specs.declared.Call.{Call}
 use Rattle.call.specs.Contents.{Found, nothing, at, firstFault, elementFault, liveOf}
-
--- a fault counts 1
-abbrev pub faultNumber : Bool → ℕ
-faultNumber true = 1
-faultNumber false = 0
 
 -- how many elements are at fault
 unfoldable pub faultCount : List Float → ℕ
 unfolding elementFault
 faultCount [] = 0
-faultCount (x ∷ xs) = faultNumber (elementFault x) + faultCount xs
+faultCount (x ∷ xs) = tally (elementFault x) + faultCount xs
 
 -- the index that was found, and n where there is none
 abbrev pub indexOr : Found → ℕ → ℕ

@@ -1,12 +1,13 @@
 // Refusal 9 in one tensor, every element: a pass over blocks of 64 elements counts faults with no branch on an element, and stops at the first block that has one or before a last shorter one; only there is an index looked for.
 ghost use mathlib.Core.Path.{_≡_};
 ghost use lib.ListN.{length};
+ghost use Rattle.bool_laws.specs.Counts.{tally};
 ghost use Rattle.call.specs.Contents.{elementFault, tensorFault};
-ghost use Rattle.contents.specs.Faults.{faultNumber, faultCount, indexOr};
+ghost use Rattle.contents.specs.Faults.{faultCount, indexOr};
 
 // 1 where an element is not a number of magnitude at most 65,536, and 0 otherwise.
 pub fn fault_number(x: f32) -> u32
-    ensures { λ r. ⌜ r ≡ faultNumber (elementFault x) ⌝ }
+    ensures { λ r. ⌜ r ≡ tally (elementFault x) ⌝ }
 {
     if -65536.0 <= x {
         if x <= 65536.0 {

@@ -20,10 +20,10 @@ use call::Refusal;
 use call::Verdict;
 
 // The verdict on the tensor with that number, by the index that a search returned.
-fn element_verdict(found: usize, length: usize, number: usize) -> Verdict
-    ensures { λ r. ⌜ r ≡ whereFound (foundBelow found length) (Element number) ⌝ }
+fn element_verdict(found: usize, count: usize, number: usize) -> Verdict
+    ensures { λ r. ⌜ r ≡ whereFound (foundBelow found count) (Element number) ⌝ }
 {
-    if found < length {
+    if found < count {
         return Verdict::Refused(Refusal::Element {
             tensor: number,
             index: found,

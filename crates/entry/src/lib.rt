@@ -1,6 +1,6 @@
 // The attention operator's entry: it checks a call, and then either answers the first refusal that applies or does the call.
 ghost use mathlib.Core.Path.{_≡_};
-ghost use Rattle.call.specs.Tensors.{inputsOf, outputsOf};
+ghost use Rattle.call.specs.Lent.{inputsNow, inputsGiven, outputsNow, outputsBefore, outputsAfter};
 ghost use Rattle.call.specs.Refusals.{verdictOf};
 ghost use Rattle.attention.specs.Outcomes.{outcomeOf, acceptedOf, attentionOf};
 use call::Answer;
@@ -24,8 +24,8 @@ fn attend<'a>(
     scores: &mut [f32],
     work: &mut [f32],
 ) -> Answer
-    requires { ⌜ verdictOf call (inputsOf (now query) (now key) (now value) (now boolmask) (now floatmask) (now pastkey) (now pastvalue) (now live)) (outputsOf (now output) (now presentkey) (now presentvalue) (now scores) (now work)) ≡ Verdict.Accepted ⌝ }
-    ensures { λ r. ⌜ outcomeOf r (outputsOf (now (output .exit)) (now (presentkey .exit)) (now (presentvalue .exit)) (now (scores .exit)) (now (work .exit))) ≡ acceptedOf call (inputsOf (now (query .entry)) (now (key .entry)) (now (value .entry)) (now (boolmask .entry)) (now (floatmask .entry)) (now (pastkey .entry)) (now (pastvalue .entry)) (now (live .entry))) ⌝ }
+    requires { ⌜ verdictOf call (inputsNow query key value boolmask floatmask pastkey pastvalue live) (outputsNow output presentkey presentvalue scores work) ≡ Verdict.Accepted ⌝ }
+    ensures { λ r. ⌜ outcomeOf r (outputsAfter output presentkey presentvalue scores work) ≡ acceptedOf call (inputsGiven query key value boolmask floatmask pastkey pastvalue live) ⌝ }
 {
     let scale = rows_numbers::effective_scale(call);
     let masked = heads_all::all_heads(
@@ -68,7 +68,7 @@ pub fn attention<'a>(
     scores: &mut [f32],
     work: &mut [f32],
 ) -> Answer
-    ensures { λ r. ⌜ outcomeOf r (outputsOf (now (output .exit)) (now (presentkey .exit)) (now (presentvalue .exit)) (now (scores .exit)) (now (work .exit))) ≡ attentionOf call (inputsOf (now (query .entry)) (now (key .entry)) (now (value .entry)) (now (boolmask .entry)) (now (floatmask .entry)) (now (pastkey .entry)) (now (pastvalue .entry)) (now (live .entry))) (outputsOf (now (output .entry)) (now (presentkey .entry)) (now (presentvalue .entry)) (now (scores .entry)) (now (work .entry))) ⌝ }
+    ensures { λ r. ⌜ outcomeOf r (outputsAfter output presentkey presentvalue scores work) ≡ attentionOf call (inputsGiven query key value boolmask floatmask pastkey pastvalue live) (outputsBefore output presentkey presentvalue scores work) ⌝ }
 {
     let verdict = refusals::verdict(
         call,

@@ -178,14 +178,3 @@ pub all-steps : (largest : Float) (row : List Float) → let ys = exponentsOf la
 unfolding exponentsOf polysOf expNegRowOf zipWith
 all-steps largest [] = refl
 all-steps largest (s ∷ row) = λ i. stepped (sub binary32 largest s) .value i ∷ all-steps largest row i
-
--- ---- a row that is mapped in place, one block after the other
-
--- with the block of k elements from i on mapped too
-pub mapped-block : {A : Type 0} (g : A → A) (i k : ℕ) (l : List A) → i + k ≤ length l
-    → withPart i k (mappedTo g i l) (map g (take k (drop i (mappedTo g i l)))) ≡ mappedTo g (i + k) l
-mapped-block g zero k l h = ap (λ (n : ℕ). mappedTo g n l) (sym (zero-add k))
-mapped-block g (suc i) k [] h = absurd (omega arith)
-mapped-block {A} g (suc i) k (x ∷ l) h =
-    ap (λ (r : List A). g x ∷ r) (mapped-block g i k l (omega (arith, suc-add i k)))
-    ∙ ap (λ (n : ℕ). mappedTo g n (x ∷ l)) (sym (suc-add i k))

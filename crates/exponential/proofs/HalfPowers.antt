@@ -9,7 +9,7 @@ use lib.Dec.{T, eqb, eqb→eq}
 use lib.Ieee.{binary32, fits, ofBits, toBits, nanBits}
 use lib.Ieee.Bits.{ofBits-toBits}
 use lib.Ieee.Fits.{and-l, and-r}
-use Rattle.tables.proofs.Every.{three}
+use Rattle.bool_laws.proofs.Tests.{three}
 use Rattle.exponential.specs.ExpNeg.{halfPower}
 
 abbrev pub halfPowerBits : ℕ → ℕ

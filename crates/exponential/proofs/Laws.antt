@@ -11,12 +11,13 @@ use lib.Ieee.{Float, nan, inf, fin, binary32, sub, mul, le, lt, isNan, fits}
 use lib.Ieee.Fits.{mul-fits, and-i}
 use lib.Ieee.Bits.{is-true, is-false}
 use lib.Ieee.Scale.{finite}
+use Rattle.float_laws.specs.Zero.{minusZero}
 use Rattle.float_laws.proofs.Order.{plus, plus-finite, finite-not-nan, le-of-not-lt, lt-of-not-le}
 use Rattle.float_laws.proofs.Product.{mul-mono, mul-not-nan}
 use Rattle.exponential.specs.declared.Exponential.{Exponential}
 use Rattle.exponential.specs.declared.Exponential.the-variants.{Value, NoValue}
 use Rattle.exponential.specs.ExpNeg.{plusZero, one, limit, log2e, inRange, belowLimitOf, scaledOf, expNegOf, valueOrZero, expNegRowOf}
-use Rattle.exponential.proofs.Whole.{minusZero, in-range}
+use Rattle.exponential.proofs.Whole.{in-range}
 use Rattle.exponential.proofs.Bounds.{below-limit-within}
 
 -- a test that failed

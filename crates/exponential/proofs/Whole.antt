@@ -17,6 +17,7 @@ use lib.Ieee.Exact.{HasValue}
 use lib.Ieee.Nearest.{div-same}
 use lib.Ieee.Positive.{num, den}
 use lib.Ieee.Scale.{finite}
+use Rattle.float_laws.specs.Zero.{minusZero}
 use Rattle.float_laws.proofs.Exact.{same-value, Dyadic, dyadic}
 use Rattle.float_laws.proofs.Magnitudes.{within-bits}
 use Rattle.float_laws.proofs.Order.{lt→le}
@@ -26,9 +27,6 @@ use Rattle.exponential.specs.Blocks.{Exponent}
 use Rattle.exponential.proofs.Bits.{units, field-value, whole-units, held}
 
 -- ---- a y in range is -0, or not negative and of the form q / 2 ^ w
-
-abbrev pub minusZero : Float
-minusZero = fin true 0 (pos 0)
 
 -- y as q / 2 ^ w
 pub record Ranged (y : Float) : Type 0 where

@@ -13,6 +13,7 @@ use lib.Ieee.Fits.{round-fits, down-pos}
 use lib.Ieee.Exact.{HasValue, round-exact}
 use lib.Ieee.Nearest.{div-same}
 use lib.Ieee.Bits.{ofBits-toBits}
+use Rattle.bool_laws.proofs.Tests.{four}
 
 -- the bits of a value of sign s that is n of the format's smallest values
 bits : Format → Bool → ℕ → ℕ
@@ -56,9 +57,6 @@ dyadic-exact f s q w small fine =
     (scaled-exact f s q 0 w small (subst (λ (l : ℕ). w ≤ l) (sym (add-zero (low f))) fine) (room f w))
 
 -- ---- what a format's value is made of
-
-four : (a b c d : Bool) → T (a && b && c && d) → T a × T b × T c × T d
-four true true true true t = (tt, tt, tt, tt)
 
 pub fits-digits : (f : Format) (s : Bool) (m : ℕ) (e : ℤ) → T (fits f (fin s m e)) → (m < 2 ^ prec f) × (down e ≤ 2 ^ low f)
 unfolding fits

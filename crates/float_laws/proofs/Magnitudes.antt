@@ -27,15 +27,15 @@ not-leb : (a b : ℕ) → b < a → false ≡ leb a b
 not-leb a b h = same-test false (leb a b) (λ t. absurd t) (λ t. omega (arith, leb→le a b t))
 
 -- ---- a value between -2 ^ k and 2 ^ k, by a fraction a / c that it is in size
-abbrev within : ℕ → Float → Bool
-within k x = le (neg (fin false 1 (pos k))) x && le x (fin false 1 (pos k))
+abbrev belowPower : ℕ → Float → Bool
+belowPower k x = le (neg (fin false 1 (pos k))) x && le x (fin false 1 (pos k))
 
-inside : (k : ℕ) (s : Bool) (m : ℕ) (e : ℤ) → T (within k (fin s m e)) → m * up e ≤ 2 ^ k * down e
+inside : (k : ℕ) (s : Bool) (m : ℕ) (e : ℤ) → T (belowPower k (fin s m e)) → m * up e ≤ 2 ^ k * down e
 unfolding neg
 inside k true m e t = omega (arith, le→cross (fin true 1 (pos k)) (fin true m e) tt tt (and-l (le (fin true 1 (pos k)) (fin true m e)) (le (fin true m e) (fin false 1 (pos k))) t))
 inside k false m e t = omega (arith, le→cross (fin false m e) (fin false 1 (pos k)) tt tt (and-r (le (fin true 1 (pos k)) (fin false m e)) (le (fin false m e) (fin false 1 (pos k))) t))
 
-inside-of : (k : ℕ) (s : Bool) (m : ℕ) (e : ℤ) → m * up e ≤ 2 ^ k * down e → T (within k (fin s m e))
+inside-of : (k : ℕ) (s : Bool) (m : ℕ) (e : ℤ) → m * up e ≤ 2 ^ k * down e → T (belowPower k (fin s m e))
 unfolding neg
 inside-of k true m e h =
     and-i (le (fin true 1 (pos k)) (fin true m e)) (le (fin true m e) (fin false 1 (pos k))) (cross→le (fin true 1 (pos k)) (fin true m e) tt tt (omega arith)) (cross→le (fin true m e) (fin false 1 (pos k)) tt tt (omega arith))
@@ -48,9 +48,9 @@ across u d a c b D v h =
     let n : a * d ≤ b * c * d = omega (arith, mul-le-mul-right c h) in
     le-of-mul-le-mul-right n D
 
-by-size : (k : ℕ) (x : Float) (s : Bool) (a c : ℕ) → 0 < c → HasValue x s a c → within k x ≡ leb a (2 ^ k * c)
+by-size : (k : ℕ) (x : Float) (s : Bool) (a c : ℕ) → 0 < c → HasValue x s a c → belowPower k x ≡ leb a (2 ^ k * c)
 by-size k (fin r m e) s a c C v =
-    same-test (within k (fin r m e)) (leb a (2 ^ k * c))
+    same-test (belowPower k (fin r m e)) (leb a (2 ^ k * c))
     (λ t. le→leb a (2 ^ k * c) (across (m * up e) (down e) a c (2 ^ k) (down-pos e) (v .1) (inside k r m e t)))
     (λ t. inside-of k r m e (across a c (m * up e) (down e) (2 ^ k) C (sym (v .1)) (leb→le a (2 ^ k * c) t)))
 
@@ -86,19 +86,19 @@ module _ (f : Format) (k y : ℕ) (K : k + low f ≡ prec f - 1 + y) (Y : suc y 
   units-of : 2 ^ k * 2 ^ low f ≡ hid f * 2 ^ y
   units-of = sym (pow-add 2 k (low f)) ∙ ap (λ (z : ℕ). 2 ^ z) K ∙ pow-add 2 (prec f - 1) y
 
-  at-odd : (s : Bool) (q j : ℕ) → within k (odd (prec f) s q j (low f)) ≡ leb (q * 2 ^ j) (hid f * 2 ^ y)
+  at-odd : (s : Bool) (q j : ℕ) → belowPower k (odd (prec f) s q j (low f)) ≡ leb (q * 2 ^ j) (hid f * 2 ^ y)
   at-odd s q j = by-size k (odd (prec f) s q j (low f)) s (q * 2 ^ j) (2 ^ low f) (pow-pos (low f)) (odd-sign (prec f) s q j (low f)) ∙ ap (λ (z : ℕ). leb (q * 2 ^ j) z) units-of
 
-  at-inf : (s : Bool) → within k (inf s) ≡ false
+  at-inf : (s : Bool) → belowPower k (inf s) ≡ false
   unfolding le neg
   at-inf true = refl
   at-inf false = refl
 
-  at-nan : within k nan ≡ false
+  at-nan : belowPower k nan ≡ false
   unfolding le neg
   at-nan = refl
 
-  by-fields : (s : Bool) (x t : ℕ) → t < hid f → within k (ofFields f s x t) ≡ leb (x * hid f + t) (suc y * hid f)
+  by-fields : (s : Bool) (x t : ℕ) → t < hid f → belowPower k (ofFields f s x t) ≡ leb (x * hid f + t) (suc y * hid f)
   unfolding ofFields
   by-fields s zero t H =
       at-odd s t 0
@@ -108,12 +108,12 @@ module _ (f : Format) (k y : ℕ) (K : k + low f ≡ prec f - 1 + y) (Y : suc y 
       over : suc x ≡ ones f → suc y * hid f < suc x * hid f + t
       over e = let l : suc y < suc x = omega arith in omega (arith, mul-le-mul-right (hid f) l)
 
-      go : (a b : Bool) → (T a → suc x ≡ ones f) → within k (cond a (cond b (inf s) nan) (odd (prec f) s (hid f + t) x (low f))) ≡ leb (suc x * hid f + t) (suc y * hid f)
+      go : (a b : Bool) → (T a → suc x ≡ ones f) → belowPower k (cond a (cond b (inf s) nan) (odd (prec f) s (hid f + t) x (low f))) ≡ leb (suc x * hid f + t) (suc y * hid f)
       go true true e = at-inf s ∙ not-leb (suc x * hid f + t) (suc y * hid f) (over (e tt))
       go true false e = at-nan ∙ not-leb (suc x * hid f + t) (suc y * hid f) (over (e tt))
       go false b e = at-odd s (hid f + t) x ∙ shifted (hid f) t x y H
 
-  by-bits : (n : ℕ) → within k (ofBits f n) ≡ leb (n % top f) (suc y * hid f)
+  by-bits : (n : ℕ) → belowPower k (ofBits f n) ≡ leb (n % top f) (suc y * hid f)
   unfolding ofBits
   by-bits n =
       by-fields (leb (top f) n) (n % top f / hid f) (n % hid f) (mod-lt n (pow-pos (prec f - 1)))

@@ -11,7 +11,7 @@ use lib.Ieee.{Float, nan, inf, fin, Format, up, down, round, sum, add, sub, neg,
 use lib.Ieee.Fits.{down-pos}
 use lib.Ieee.Positive.{den, den-pos}
 use lib.Ieee.Scale.{finite}
-use Rattle.float_laws.proofs.Order.{plusZero, gain, loss, plus, plus-finite, le→cross, neg-anti, le-refl, finite-between}
+use Rattle.float_laws.proofs.Order.{plusZero, gain, loss, plus, plus-finite, le→cross, neg-anti, le-refl, finite-between, finite-not-nan}
 use Rattle.float_laws.proofs.Cross.{neg-finite}
 use Rattle.float_laws.proofs.Rounded.{Rounded, more, less, rounded-mono, rounded-not-nan, round-zero, plus-of-round}
 pub use Rattle.float_laws.proofs.Rounded.{round-neg}
@@ -147,12 +147,6 @@ sub-self f (fin false m e) p =
     sub-opened f false m e false m e
     ∙ fall-is f (m * up e * down e) (m * up e * down e) (down e * down e) (omega arith)
     ∙ nothing-left f (m * up e * down e) (down e * down e) (mul-pos (down-pos e) (down-pos e))
-
-finite-not-nan : (x : Float) → T (finite x) → T (not (isNan x))
-unfolding isNan
-finite-not-nan nan p = absurd p
-finite-not-nan (inf s) p = tt
-finite-not-nan (fin s m e) p = tt
 
 pub zero-le-sub : (f : Format) (x y : Float) → T (finite x) → T (finite y) → T (le y x) → T (le plusZero (sub f x y))
 zero-le-sub f x y p q h = subst (λ (z : Float). T (le z (sub f x y))) (sub-self f y q) (sub-mono f y x y y q p q q h (le-refl y (finite-not-nan y q)))

@@ -10,6 +10,8 @@ use lib.Arith.{digits-div, digits-mod}
 use lib.ListN.{length}
 use lib.Ieee.{Float, nan}
 use borrow.Author.Tests.{lt-ltb, le-leb}
+use Rattle.bool_laws.specs.Counts.{countWhere}
+use Rattle.bool_laws.proofs.Counts.{count-start, count-runs, count-agree}
 use Rattle.tensor_laws.specs.Layout.{tabulate, tensorOf, writtenOf}
 use Rattle.tensor_laws.proofs.Slots.{batch-slot, head-slot, position-slot}
 use Rattle.tensor_laws.proofs.Tabulate.{length-tabulate, none-long}
@@ -23,8 +25,7 @@ use Rattle.call.specs.Lengths.{outputLength, scoresLength, inScores}
 use Rattle.call.specs.Tensors.{Inputs}
 use Rattle.call.proofs.Facts.{InLimits}
 use Rattle.attention.specs.Formula.{attentionOutput, attentionWeight, rowMasked, shownScore}
-use Rattle.attention.specs.Outcomes.{whereShown, outputTensor, presentKeyTensor, presentValueTensor, scoresTensor, workRow, countWhere, maskedRowsOf}
-use Rattle.attention.proofs.Counting.{count-start, count-runs, count-agree}
+use Rattle.attention.specs.Outcomes.{whereShown, outputTensor, presentKeyTensor, presentValueTensor, scoresTensor, workRow, maskedRowsOf}
 use Rattle.rows.specs.Unit.{shownAt, isUnitRow, HeadDone}
 use Rattle.rows.proofs.UnitRows.{scores-by-rows}
 use Rattle.caches.specs.Rows.{inHead, headsBefore}

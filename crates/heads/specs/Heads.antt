@@ -5,13 +5,14 @@ use mathlib.Core.List.{List}
 use Prim.Native.Nat.{ℕ, _+_, _-_, _*_, _/_, _%_, _≤_, _<_}
 use lib.ListN.{length}
 use lib.Ieee.{Float, nan}
+use Rattle.bool_laws.specs.Counts.{countWhere}
 use Rattle.tensor_laws.specs.Layout.{batchAt, headAt, positionAt, tabulate, writtenOf}
 use Rattle.call.specs.declared.Call.{Call}
 use Rattle.call.specs.Limits.{totalOf}
 use Rattle.call.specs.Lengths.{inScores}
 use Rattle.call.specs.Tensors.{Inputs}
 use Rattle.attention.specs.Formula.{attentionOutput, attentionWeight, rowMasked}
-use Rattle.attention.specs.Outcomes.{outputTensor, presentKeyTensor, presentValueTensor, scoresTensor, workRow, countWhere, maskedRowsOf}
+use Rattle.attention.specs.Outcomes.{outputTensor, presentKeyTensor, presentValueTensor, scoresTensor, workRow, maskedRowsOf}
 use Rattle.caches.specs.Rows.{headsBefore}
 use Rattle.rows.specs.Unit.{shownAt}
 

@@ -3,7 +3,7 @@ ghost use mathlib.Core.Path.{_≡_};
 ghost use lib.ListN.{length};
 ghost use Rattle.call.specs.Limits.{totalOf};
 ghost use Rattle.call.specs.Lengths.{outputLength, presentKeyLength, presentValueLength, scoresLength};
-ghost use Rattle.call.specs.Tensors.{inputsOf};
+ghost use Rattle.call.specs.Lent.{inputsNow, inputsGiven};
 ghost use Rattle.rows.specs.Unit.{Accepting};
 ghost use Rattle.heads.specs.Heads.{HeadsDone};
 use call::Call;
@@ -27,10 +27,10 @@ pub fn all_heads<'a>(
     scores: &mut [f32],
     work: &mut [f32],
 ) -> usize
-    requires { ⌜ Accepting call (inputsOf (now query) (now key) (now value) (now boolmask) (now floatmask) (now pastkey) (now pastvalue) (now live)) scale ⌝ }
+    requires { ⌜ Accepting call (inputsNow query key value boolmask floatmask pastkey pastvalue live) scale ⌝ }
     requires { ⌜ (length (now output) ≡ outputLength call) × (length (now scores) ≡ scoresLength call) × (length (now work) ≡ totalOf call) ⌝ }
     requires { ⌜ (length (now presentkey) ≡ presentKeyLength call) × (length (now presentvalue) ≡ presentValueLength call) ⌝ }
-    ensures { λ r. ⌜ HeadsDone call (inputsOf (now (query .entry)) (now (key .entry)) (now (value .entry)) (now (boolmask .entry)) (now (floatmask .entry)) (now (pastkey .entry)) (now (pastvalue .entry)) (now (live .entry))) (now (output .exit)) (now (presentkey .exit)) (now (presentvalue .exit)) (now (scores .exit)) (now (work .exit)) r ⌝ }
+    ensures { λ r. ⌜ HeadsDone call (inputsGiven query key value boolmask floatmask pastkey pastvalue live) (now (output .exit)) (now (presentkey .exit)) (now (presentvalue .exit)) (now (scores .exit)) (now (work .exit)) r ⌝ }
 {
     let all = call.batches * call.qheads;
     let form = call.form;

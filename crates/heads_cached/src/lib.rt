@@ -4,7 +4,7 @@ ghost use Prim.Native.Nat.{_*_};
 ghost use lib.ListN.{length};
 ghost use Rattle.call.specs.Limits.{totalOf};
 ghost use Rattle.call.specs.Lengths.{outputLength, scoresLength};
-ghost use Rattle.call.specs.Tensors.{inputsOf};
+ghost use Rattle.call.specs.Lent.{inputsNow, inputsGiven};
 ghost use Rattle.rows.specs.Unit.{Accepting};
 ghost use Rattle.heads.specs.Heads.{HeadsDone};
 use call::Call;
@@ -28,11 +28,11 @@ pub fn cached_heads<'a>(
     scores: &mut [f32],
     work: &mut [f32],
 ) -> usize
-    requires { ⌜ Accepting call (inputsOf (now query) (now key) (now value) (now boolmask) (now floatmask) (now pastkey) (now pastvalue) (now live)) scale ⌝ }
+    requires { ⌜ Accepting call (inputsNow query key value boolmask floatmask pastkey pastvalue live) scale ⌝ }
     requires { ⌜ call .form ≡ Form.Cached ⌝ }
     requires { ⌜ (length (now output) ≡ outputLength call) × (length (now scores) ≡ scoresLength call) × (length (now work) ≡ totalOf call) ⌝ }
     requires { ⌜ (length (now presentkey) ≡ call .batches * call .kvheads * totalOf call * call .size) × (length (now presentvalue) ≡ call .batches * call .kvheads * totalOf call * call .vsize) ⌝ }
-    ensures { λ r. ⌜ HeadsDone call (inputsOf (now (query .entry)) (now (key .entry)) (now (value .entry)) (now (boolmask .entry)) (now (floatmask .entry)) (now (pastkey .entry)) (now (pastvalue .entry)) (now (live .entry))) (now (output .exit)) (now (presentkey .exit)) (now (presentvalue .exit)) (now (scores .exit)) (now (work .exit)) r ⌝ }
+    ensures { λ r. ⌜ HeadsDone call (inputsGiven query key value boolmask floatmask pastkey pastvalue live) (now (output .exit)) (now (presentkey .exit)) (now (presentvalue .exit)) (now (scores .exit)) (now (work .exit)) r ⌝ }
 {
     let heads = call.kvheads;
     let group = call.qheads / heads;

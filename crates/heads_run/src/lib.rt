@@ -4,7 +4,7 @@ ghost use Prim.Native.Nat.{_*_, _≤_};
 ghost use lib.ListN.{length};
 ghost use Rattle.call.specs.Limits.{totalOf};
 ghost use Rattle.call.specs.Lengths.{outputLength, scoresLength};
-ghost use Rattle.call.specs.Tensors.{inputsOf};
+ghost use Rattle.call.specs.Lent.{inputsNow, inputsGiven};
 ghost use Rattle.rows.specs.Unit.{Accepting};
 ghost use Rattle.heads.specs.Heads.{HeadsCarried};
 use call::Call;
@@ -27,10 +27,10 @@ pub fn heads_between<'a>(
     scores: &mut [f32],
     work: &mut [f32],
 ) -> usize
-    requires { ⌜ Accepting call (inputsOf (now query) (now key) (now value) (now boolmask) (now floatmask) (now pastkey) (now pastvalue) (now live)) scale ⌝ }
+    requires { ⌜ Accepting call (inputsNow query key value boolmask floatmask pastkey pastvalue live) scale ⌝ }
     requires { ⌜ (from ≤ to) × (to ≤ call .batches * call .qheads) ⌝ }
     requires { ⌜ (length (now output) ≡ outputLength call) × (length (now scores) ≡ scoresLength call) × (length (now work) ≡ totalOf call) ⌝ }
-    ensures { λ r. ⌜ HeadsCarried call (inputsOf (now (query .entry)) (now (key .entry)) (now (value .entry)) (now (boolmask .entry)) (now (floatmask .entry)) (now (pastkey .entry)) (now (pastvalue .entry)) (now (live .entry))) from to (now (output .entry)) (now (scores .entry)) (now (work .entry)) (now (output .exit)) (now (scores .exit)) (now (work .exit)) r ⌝ }
+    ensures { λ r. ⌜ HeadsCarried call (inputsGiven query key value boolmask floatmask pastkey pastvalue live) from to (now (output .entry)) (now (scores .entry)) (now (work .entry)) (now (output .exit)) (now (scores .exit)) (now (work .exit)) r ⌝ }
 {
     let heads = call.qheads;
     let rows = call.qlen;

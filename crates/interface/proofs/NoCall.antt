@@ -3,7 +3,7 @@ use mathlib.Core.Path.{_≡_, refl}
 use mathlib.Core.List.{List}
 use Prim.Native.Nat.{ℕ, _<_}
 use native.Mathlib.Omega.{arith}
-use mathlib.Core.Bool.{Bool, true, false}
+use mathlib.Core.Bool.{Bool, true, false, and-false}
 use lib.ListN.{length}
 use lib.Ieee.{Float}
 use borrow.Author.Tests.{ne-eqb}
@@ -18,7 +18,6 @@ use Rattle.call.specs.Limits.{limitsHold, groupsHold, settingsHold, maskShapeHo
 use Rattle.call.specs.Profile.{profileHolds}
 use Rattle.call.specs.Refusals.{unless, _then_, recordVerdict, lengthsVerdict, cellsVerdict, elementsVerdict, verdictOf}
 use Rattle.call.specs.Tensors.{Inputs, Outputs}
-use Rattle.contents.proofs.Groups.{and-false}
 use Rattle.attention.specs.Outcomes.{outcomeOf}
 use Rattle.attention.specs.Entries.{stepOf}
 use Rattle.attention.proofs.Entries.{step-other}

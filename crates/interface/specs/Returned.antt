@@ -7,7 +7,7 @@ use Rattle.attention.specs.Outcomes.{Outcome}
 use Rattle.tables.specs.declared.PowerEntry.{PowerEntry}
 use Rattle.tables.specs.declared.PowerEntry.the-variants.{Entry, NoEntry}
 use Rattle.tables.specs.declared.DefaultScale.{DefaultScale}
-use Rattle.tables.specs.declared.DefaultScale.the-variants.{Scale, NoScale}
+use Rattle.tables.specs.declared.DefaultScale.the-variants.{ScaleIs, NoScale}
 use Rattle.exponential.specs.ExpNeg.{plusZero}
 use Rattle.exponential.specs.declared.Exponential.{Exponential}
 use Rattle.exponential.specs.declared.Exponential.the-variants.{Value, NoValue}
@@ -44,5 +44,5 @@ powerTold (Entry x) = told 1 x
 powerTold NoEntry = told 0 plusZero
 
 abbrev pub scaleTold : DefaultScale → Told
-scaleTold (Scale x) = told 1 x
+scaleTold (ScaleIs x) = told 1 x
 scaleTold NoScale = told 0 plusZero

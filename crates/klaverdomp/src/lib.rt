@@ -3,7 +3,7 @@
 pub mod sessions;
 
 ghost use mathlib.Core.Path.{_≡_};
-ghost use Rattle.call.specs.Tensors.{inputsOf, outputsOf};
+ghost use Rattle.call.specs.Lent.{inputsGiven, outputsBefore, outputsAfter};
 ghost use Rattle.attention.specs.Outcomes.{attentionOf};
 ghost use Rattle.attention.specs.Entries.{stepInputs, stepOutputs, stepOf};
 ghost use Rattle.tables.specs.Power.{powerEntryOf};
@@ -39,7 +39,7 @@ pub extern "C" fn klaverdomp_attention_3<'a>(
     total: &mut u64,
     masked: &mut u64,
 ) -> u32
-    ensures { λ r. ⌜ returned r (now (tensor .exit)) (now (index .exit)) (now (total .exit)) (now (masked .exit)) (outputsOf (now (output .exit)) (now (presentkey .exit)) (now (presentvalue .exit)) (now (scores .exit)) (now (work .exit))) ≡ returnedOf (attentionOf (callOf (now (numbers .entry)) scale softcap) (inputsOf (now (query .entry)) (now (key .entry)) (now (value .entry)) (now (boolmask .entry)) (now (floatmask .entry)) (now (pastkey .entry)) (now (pastvalue .entry)) (now (live .entry))) (outputsOf (now (output .entry)) (now (presentkey .entry)) (now (presentvalue .entry)) (now (scores .entry)) (now (work .entry)))) ⌝ }
+    ensures { λ r. ⌜ returned r (now (tensor .exit)) (now (index .exit)) (now (total .exit)) (now (masked .exit)) (outputsAfter output presentkey presentvalue scores work) ≡ returnedOf (attentionOf (callOf (now (numbers .entry)) scale softcap) (inputsGiven query key value boolmask floatmask pastkey pastvalue live) (outputsBefore output presentkey presentvalue scores work)) ⌝ }
 {
     let call = interface_record::decode(numbers, scale, softcap);
     let answer = entry::attention(
@@ -157,7 +157,7 @@ pub extern "C" fn klaverdomp_default_scale_1(size: u64, value: &mut f32) -> u32
     ensures { λ r. ⌜ told r (now (value .exit)) ≡ scaleTold (defaultScaleOf size) ⌝ }
 {
     match tables::default_scale(size as usize) {
-        DefaultScale::Scale(x) => {
+        DefaultScale::ScaleIs(x) => {
             *value = x;
             1
         }

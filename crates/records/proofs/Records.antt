@@ -7,6 +7,7 @@ use native.Mathlib.Omega.{arith}
 use borrow.Author.Tests.{eq-eqb, eqb-true}
 use lib.Dec.{eqb}
 use lib.ListN.{length, getD, take, drop}
+use Rattle.bool_laws.proofs.Tests.{both-true}
 use Rattle.records.specs.Numbers.{u16Bytes, u32Bytes, u16At, u32At}
 use Rattle.records.specs.Records.{headBytes, headIs}
 use Rattle.records.proofs.Places.{headIs-drop, behind}
@@ -23,13 +24,9 @@ head-written long kind hl hk p q =
     behind (λ t i. headIs t i long kind) (λ a i t. headIs-drop a i long kind t) p s
     ∙ (λ j. l j && k j)
 
-both : (a b : Bool) → a && b ≡ true → (a ≡ true) × (b ≡ true)
-both true b e = (refl, e)
-both false b e = (e, absurd (false≢true e))
-
 pub head-bytes : (s : List ℕ) → ((k : ℕ) → getD s k 0 < 256) → (i long kind : ℕ) → i + 6 ≤ length s → headIs s i long kind ≡ true → headBytes long kind ≡ take 6 (drop i s)
 head-bytes s small i long kind h e =
-    let t = both (eqb (u32At s i) long) (eqb (u16At s (i + 4)) kind) e in
+    let t = both-true (eqb (u32At s i) long) (eqb (u16At s (i + 4)) kind) e in
     let l : u32At s i ≡ long = eqb-true (u32At s i) long (t .0) in
     let k : u16At s (i + 4) ≡ kind = eqb-true (u16At s (i + 4)) kind (t .1) in
     (λ j. u32Bytes (sym l j) ++ u16Bytes (sym k j))

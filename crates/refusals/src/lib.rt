@@ -1,6 +1,7 @@
 // The check that decides the nine refusals, one link after the other in their order. It reads what the caller lends and writes nothing.
 ghost use mathlib.Core.Path.{_≡_};
-ghost use Rattle.call.specs.Tensors.{Outputs, inputsOf};
+ghost use Rattle.call.specs.Tensors.{Outputs};
+ghost use Rattle.call.specs.Lent.{inputsGiven};
 ghost use Rattle.call.specs.Refusals.{verdictOf};
 ghost use Rattle.shapes.specs.Lent.{WrittenLengths};
 use call::Call;
@@ -23,7 +24,7 @@ pub fn verdict(
     scores: usize,
     work: usize,
 ) -> Verdict
-    ensures { λ r. ⌜ ((y : Outputs) → WrittenLengths y output presentkey presentvalue scores work → r ≡ verdictOf call (inputsOf (now (query .entry)) (now (key .entry)) (now (value .entry)) (now (boolmask .entry)) (now (floatmask .entry)) (now (pastkey .entry)) (now (pastvalue .entry)) (now (live .entry))) y) ⌝ }
+    ensures { λ r. ⌜ ((y : Outputs) → WrittenLengths y output presentkey presentvalue scores work → r ≡ verdictOf call (inputsGiven query key value boolmask floatmask pastkey pastvalue live) y) ⌝ }
 {
     let by_record = shapes_record::record_verdict(call);
     if let Verdict::Refused(refusal) = by_record {

@@ -4,7 +4,7 @@ use mathlib.Core.Logic.{_⊎_, inl, inr}
 use Prim.Native.Nat.{ℕ, _+_, _≤_, _<_}
 use native.Mathlib.Nat.{lt-of-lt-of-le}
 use native.Mathlib.Omega.{arith}
-use mathlib.Core.Bool.{Bool, true, false, not, _&&_, _||_, cond, true≢false}
+use mathlib.Core.Bool.{Bool, true, false, not, _&&_, _||_, cond, true≢false, and-true, and-false}
 use lib.Dec.{T, ltb, leb, eqb, ltb→lt, leb→le, nleb→lt}
 use lib.ListN.{getD}
 use lib.Ieee.{Float, nan, inf, fin, binary32, add}
@@ -46,18 +46,10 @@ module _ (live r : ℕ) where
       diagonal : r + 1 ≤ live → (t : Bool) → (T t → j ≤ r) → (T (not t) → r < j) → (ltb j live && t) ≡ ltb j (r + 1)
       diagonal l true f g = let m : j ≤ r = f tt in ap (λ (p : Bool). p && true) (lt-ltb j live (omega arith)) ∙ sym (lt-ltb j (r + 1) (omega arith))
       diagonal l false f g = let m : r < j = g tt in and-false (ltb j live) ∙ sym (le-ltb j (r + 1) (omega arith))
-        where
-          and-false : (p : Bool) → (p && false) ≡ false
-          and-false true = refl
-          and-false false = refl
 
       within : live ≤ r + 1 → (t : Bool) → (T t → j < live) → (t && leb j r) ≡ t
       within l true f = let m : j < live = f tt in le-leb j r (omega arith)
       within l false f = refl
-
-      and-true : (p : Bool) → (p && true) ≡ p
-      and-true true = refl
-      and-true false = refl
 
       go : (p q : Bool) → (T q → live ≤ r + 1) → (T (not q) → r + 1 < live) → (ltb j live && (p || leb j r)) ≡ ltb j (cond p live (cond q live (r + 1)))
       go true q f g = and-true (ltb j live)

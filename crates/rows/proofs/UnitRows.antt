@@ -1,7 +1,7 @@
 -- The rows of one query head one after the other: what is done before the first, after one more, and after the last. Assumes nothing.
 use mathlib.Core.Path.{_≡_, refl, sym, ap, _∙_}
 use mathlib.Core.Logic.{_≢_}
-use mathlib.Core.Bool.{Bool, true, false, _&&_}
+use mathlib.Core.Bool.{Bool, true, false, _&&_, and-false}
 use mathlib.Core.List.{List}
 use Prim.Native.Nat.{ℕ, _+_, _-_, _*_, _≤_, _<_, zero-le}
 use native.Mathlib.Nat.{mul-zero, le-refl}
@@ -11,6 +11,8 @@ use lib.Dec.{eqb, leb, ltb}
 use lib.ListN.{length, getD}
 use lib.Ieee.{Float, nan}
 use borrow.Author.Tests.{lt-ltb, le-ltb, le-leb, lt-leb, eq-eqb, ne-eqb}
+use Rattle.bool_laws.specs.Counts.{tally, countWhere}
+use Rattle.bool_laws.proofs.Counts.{count-start, count-next}
 use Rattle.tensor_laws.specs.Layout.{slot, tabulate, writtenOf}
 use Rattle.tensor_laws.proofs.Tabulate.{length-tabulate, getD-tabulate}
 use Rattle.tensor_laws.proofs.Parts.{withPart}
@@ -22,15 +24,9 @@ use Rattle.call.specs.Limits.{totalOf}
 use Rattle.call.specs.Lengths.{outputLength, scoresLength, inScores}
 use Rattle.call.specs.Tensors.{Inputs}
 use Rattle.attention.specs.Formula.{attentionOutput, attentionWeight, rowMasked}
-use Rattle.attention.specs.Outcomes.{tally, countWhere}
-use Rattle.attention.proofs.Counting.{count-start, count-next}
 use Rattle.rows.specs.Unit.{shownAt, isUnitRow, RowDone, HeadDone}
 
 -- ---- which rows are done
-
-and-false : (p : Bool) → (p && false) ≡ false
-and-false true = refl
-and-false false = refl
 
 -- none of no rows
 unit-none : (b h first b' h' i' : ℕ) → isUnitRow b h first 0 b' h' i' ≡ false

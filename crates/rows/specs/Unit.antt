@@ -5,6 +5,7 @@ use mathlib.Core.List.{List}
 use Prim.Native.Nat.{ℕ, _+_, _-_}
 use lib.Dec.{eqb, leb, ltb}
 use lib.Ieee.{Float, nan}
+use Rattle.bool_laws.specs.Counts.{countWhere}
 use Rattle.tensor_laws.specs.Layout.{tabulate, writtenOf}
 use Rattle.exponential.specs.ExpNeg.{plusZero}
 use Rattle.call.specs.declared.Call.{Call}
@@ -16,7 +17,6 @@ use Rattle.call.specs.Lengths.{inScores}
 use Rattle.call.specs.Tensors.{Inputs, Outputs}
 use Rattle.call.specs.Refusals.{verdictOf}
 use Rattle.attention.specs.Formula.{effectiveScale, attentionOutput, attentionWeight, rowMasked, shownScore}
-use Rattle.attention.specs.Outcomes.{countWhere}
 
 -- what is shown of row (b, h, i) at key j; without a mode the scores are empty
 abbrev pub shownAt : ScoreMode → Call → Inputs → (b h i j : ℕ) → Float

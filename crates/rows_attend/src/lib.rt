@@ -4,7 +4,7 @@ ghost use Prim.Native.Nat.{_<_};
 ghost use lib.ListN.{length};
 ghost use Rattle.call.specs.Limits.{totalOf};
 ghost use Rattle.call.specs.Lengths.{inScores};
-ghost use Rattle.call.specs.Tensors.{inputsOf};
+ghost use Rattle.call.specs.Lent.{inputsNow, inputsGiven};
 ghost use Rattle.rows.specs.Unit.{Accepting, RowDone};
 use call::Call;
 
@@ -27,10 +27,10 @@ pub fn attend_row<'a>(
     shown: &mut [f32],
     work: &mut [f32],
 ) -> bool
-    requires { ⌜ Accepting call (inputsOf (now query) (now key) (now value) (now boolmask) (now floatmask) (now pastkey) (now pastvalue) (now live)) scale ⌝ }
+    requires { ⌜ Accepting call (inputsNow query key value boolmask floatmask pastkey pastvalue live) scale ⌝ }
     requires { ⌜ (b < call .batches) × (h < call .qheads) × (i < call .qlen) ⌝ }
     requires { ⌜ (length (now out) ≡ call .vsize) × (length (now shown) ≡ inScores (call .mode) (totalOf call)) × (length (now work) ≡ totalOf call) ⌝ }
-    ensures { λ r. ⌜ RowDone call (inputsOf (now (query .entry)) (now (key .entry)) (now (value .entry)) (now (boolmask .entry)) (now (floatmask .entry)) (now (pastkey .entry)) (now (pastvalue .entry)) (now (live .entry))) b h i (now (out .exit)) (now (shown .exit)) (now (work .exit)) r ⌝ }
+    ensures { λ r. ⌜ RowDone call (inputsGiven query key value boolmask floatmask pastkey pastvalue live) b h i (now (out .exit)) (now (shown .exit)) (now (work .exit)) r ⌝ }
 {
     let mode = call.mode;
     let kind = call.mask;

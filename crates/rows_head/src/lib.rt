@@ -4,7 +4,7 @@ ghost use Prim.Native.Nat.{_+_, _≤_, _<_};
 ghost use lib.ListN.{length};
 ghost use Rattle.call.specs.Limits.{totalOf};
 ghost use Rattle.call.specs.Lengths.{outputLength, scoresLength};
-ghost use Rattle.call.specs.Tensors.{inputsOf};
+ghost use Rattle.call.specs.Lent.{inputsNow, inputsGiven};
 ghost use Rattle.rows.specs.Unit.{Accepting, HeadDone};
 use call::Call;
 
@@ -28,10 +28,10 @@ pub fn head_rows<'a>(
     scores: &mut [f32],
     work: &mut [f32],
 ) -> usize
-    requires { ⌜ Accepting call (inputsOf (now query) (now key) (now value) (now boolmask) (now floatmask) (now pastkey) (now pastvalue) (now live)) scale ⌝ }
+    requires { ⌜ Accepting call (inputsNow query key value boolmask floatmask pastkey pastvalue live) scale ⌝ }
     requires { ⌜ (b < call .batches) × (h < call .qheads) × (1 ≤ count) × (first + count ≤ call .qlen) ⌝ }
     requires { ⌜ (length (now output) ≡ outputLength call) × (length (now scores) ≡ scoresLength call) × (length (now work) ≡ totalOf call) ⌝ }
-    ensures { λ r. ⌜ HeadDone call (inputsOf (now (query .entry)) (now (key .entry)) (now (value .entry)) (now (boolmask .entry)) (now (floatmask .entry)) (now (pastkey .entry)) (now (pastvalue .entry)) (now (live .entry))) b h first count (now (output .entry)) (now (scores .entry)) (now (output .exit)) (now (scores .exit)) (now (work .exit)) r ⌝ }
+    ensures { λ r. ⌜ HeadDone call (inputsGiven query key value boolmask floatmask pastkey pastvalue live) b h first count (now (output .entry)) (now (scores .entry)) (now (output .exit)) (now (scores .exit)) (now (work .exit)) r ⌝ }
 {
     let width = rows_numbers::shown_width(call);
     let end = first + count;

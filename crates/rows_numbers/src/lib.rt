@@ -2,11 +2,11 @@
 ghost use mathlib.Core.Path.{_≡_};
 ghost use mathlib.Core.Bool.{cond};
 ghost use Prim.Native.Nat.{_/_, _≤_};
+ghost use Rattle.bool_laws.specs.Counts.{tally};
 ghost use Rattle.call.specs.Limits.{totalOf};
 ghost use Rattle.call.specs.Lengths.{inScores};
 ghost use Rattle.attention.specs.Elements.{keyHeadOf};
 ghost use Rattle.attention.specs.Formula.{effectiveScale};
-ghost use Rattle.attention.specs.Outcomes.{tally};
 use call::Call;
 use call::Scale;
 use call::ScoreMode;
@@ -22,7 +22,7 @@ pub fn effective_scale(call: Call) -> f32
         Scale::Absent => {
             let default = tables::default_scale(call.size);
             match default {
-                DefaultScale::Scale(x) => x,
+                DefaultScale::ScaleIs(x) => x,
                 DefaultScale::NoScale => 0.0,
             }
         }

@@ -10,17 +10,17 @@ use lib.Ieee.{Float}
 use lib.ListN.{length, take, length-append}
 use lib.Seq.{length-take-le, getD-take, getD-append-add}
 use borrow.Author.Tests.{lt-ltb, le-ltb}
+use Rattle.session_file.proofs.Caches.{cache-of-cells}
 use Rattle.tensor_laws.proofs.Slots.{right-factor-pos}
 use Rattle.call.specs.declared.Call.{Call}
 use Rattle.attention.specs.Elements.{cellAt}
 use Rattle.session_file.specs.declared.Sizes.{Sizes}
 use Rattle.session_file.specs.declared.Reading.{Reading}
 use Rattle.session_file.specs.declared.Reading.the-variants.{SessionRead, NotRead}
-use Rattle.session_file.specs.Form.{Session, sessionOf}
+use Rattle.session_file.specs.Form.{Session, sessionOf, cacheCell, cacheOf}
 use Rattle.session_file.specs.Reader.{sessionAt}
-use Rattle.session_laws.specs.Sessions.{cacheCell, cacheOf, cellBehind, firstPositions, bothOf}
+use Rattle.session_laws.specs.Sessions.{cellBehind, firstPositions, bothOf}
 use Rattle.session_laws.specs.Statements.{wholeIn}
-use Rattle.session_laws.proofs.Caches.{cache-of-cells}
 use Rattle.session_laws.proofs.Saved.{read-holds}
 use Rattle.session_laws.proofs.Appended.{append-holds}
 use Rattle.sequence.specs.Positions.{Position, nowhere, positionOf, keyCache, valueCache}

@@ -7,11 +7,11 @@ use lib.Dec.{T}
 use lib.ListN.{length, length-map, List·getD-map}
 use lib.Ieee.{Float, nan, binary32, neg, sub, mul, div, fits}
 use lib.Ieee.Fits.{add-fits}
+use Rattle.float_laws.specs.Zero.{minusZero}
 use Rattle.float_laws.proofs.MinusZero.{minus-zero-sub}
 use Rattle.tensor_laws.specs.Layout.{tabulate}
 use Rattle.tensor_laws.proofs.Tabulate.{tabulate-ext, map-elements}
 use Rattle.exponential.specs.ExpNeg.{expNegOf, valueOrZero, expNegRowOf}
-use Rattle.exponential.proofs.Whole.{minusZero}
 use Rattle.exponential.proofs.Laws.{length-row, getD-row}
 use Rattle.softmax.specs.Lists.{elementOf, hidden, isHidden}
 use Rattle.softmax.specs.Cap.{signedBy, twiceOf, ratioOf, cappedOrHidden, cappedRowOf}

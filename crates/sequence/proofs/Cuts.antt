@@ -5,6 +5,7 @@ use mathlib.Core.Bool.{Bool, true, false, _&&_}
 use Prim.Native.Nat.{_+_, _≤_}
 use native.Mathlib.Omega.{arith}
 use lib.ListN.{length, length-append}
+use Rattle.bool_laws.proofs.Tests.{both-true}
 use Rattle.call.specs.declared.Call.{Call}
 use Rattle.call.specs.Profile.{takes}
 use Rattle.call.specs.Lengths.{inputsFit, outputsFit}
@@ -13,7 +14,7 @@ use Rattle.sequence.specs.Positions.{Position, plainCall}
 use Rattle.sequence.specs.Chunks.{entryRun, Chunk, start, lengthOf, lentOf, chunkCall, chunkInputs, chunkOutcome, positionsOf, plainAccepted, entered, isDone}
 use Rattle.sequence.specs.Cuts.{cachesFor, fitsAfter, allFit, allPositions, allAccepted, CutHolds}
 use Rattle.sequence.proofs.Places.{stateOf, AllGood, good-before, length-with-chunk}
-use Rattle.sequence.proofs.Plain.{split, both, PlainGood, plain→good, good→plain}
+use Rattle.sequence.proofs.Plain.{both, PlainGood, plain→good, good→plain}
 use Rattle.sequence.proofs.Step.{key-cache-length, value-cache-length, fits→entered, entered→plain}
 use Rattle.sequence.proofs.Kept.{next, state-entered, kept-start}
 use Rattle.sequence.proofs.Theorem.{done-entered}
@@ -53,8 +54,8 @@ unfolding fitsAfter
 fits-entered s history r e p =
     let t = takes (r .entry) (chunkCall s (length history) r) in
     let i = inputsFit (chunkCall s (length history) r) (chunkInputs (cachesFor s (length history)) r) in
-    let f = split (t && i) (outputsFit (chunkCall s (length history) r) (lentOf r)) e in
-    let g = split t i (f .0) in
+    let f = both-true (t && i) (outputsFit (chunkCall s (length history) r) (lentOf r)) e in
+    let g = both-true t i (f .0) in
     fits→entered s history r (g .0) (caches-fit s history r (g .1)) (f .1) p
 
 -- after a history, chunks that fit are all accepted where the plain call over the history and all their positions is
@@ -62,7 +63,7 @@ plain→all : (s : Call) (history : List Position) (rs : List Chunk) → AllGood
 unfolding allFit allPositions allAccepted
 plain→all s history [] good fit p = refl
 plain→all s history (r ∷ rs) good fit p =
-    let f = split (fitsAfter s (length history) r) (allFit s (length history + lengthOf r) rs) fit in
+    let f = both-true (fitsAfter s (length history) r) (allFit s (length history + lengthOf r) rs) fit in
     let n = length-with-chunk s r history in
     let w : PlainGood s (history ++ positionsOf s r ++ allPositions s rs) = subst (PlainGood s) (sym (append-assoc history (positionsOf s r) (allPositions s rs))) p in
     let q = plain-before s (history ++ positionsOf s r) (allPositions s rs) (omega arith) w in
@@ -75,7 +76,7 @@ first-accepted : (s : Call) (history : List Position) (r : Chunk) (rs : List Chu
     → PlainGood s (history ++ positionsOf s r) × (allAccepted entryRun s (stateOf s (history ++ positionsOf s r)) rs ≡ true)
 unfolding allAccepted
 first-accepted s history r rs good a =
-    let f = split (isDone (chunkOutcome entryRun s (stateOf s history) r .answer)) (allAccepted entryRun s (next s (stateOf s history) r) rs) a in
+    let f = both-true (isDone (chunkOutcome entryRun s (stateOf s history) r .answer)) (allAccepted entryRun s (next s (stateOf s history) r) rs) a in
     let e = sym (done-entered s history r good) ∙ f .0 in
     (entered→plain s history r e, subst (λ st. allAccepted entryRun s st rs ≡ true) (state-entered s history r e) (f .1))
 

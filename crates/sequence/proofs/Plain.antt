@@ -27,11 +27,7 @@ use Rattle.sequence.proofs.Places.{AllGood}
 
 -- ---- conjunctions
 
--- a conjunction holds exactly where both parts do
-pub split : (a b : Bool) → a && b ≡ true → (a ≡ true) × (b ≡ true)
-split true b e = (refl, e)
-split false b e = absurd (let z : _≡_ {A = ℕ} 0 1 = cc in omega arith)
-
+-- a conjunction holds where both parts do
 pub both : {a b : Bool} → a ≡ true → b ≡ true → a && b ≡ true
 both {b = b} p q = ap (λ a. a && b) p ∙ q
 

@@ -6,6 +6,7 @@ use Prim.Native.Nat.{ℕ, _*_, _<_}
 use native.Mathlib.Omega.{arith}
 use lib.Ieee.{nan}
 use lib.ListN.{length}
+use Rattle.bool_laws.proofs.Tests.{both-true}
 use Rattle.tensor_laws.proofs.Tabulate.{none-long}
 use Rattle.tensor_laws.proofs.Cells.{length-tensorOf, getD-tensorOf}
 use Rattle.call.specs.declared.Call.{Call}
@@ -29,7 +30,7 @@ use Rattle.sequence.specs.Positions.{Position, positionOf, plainCall, ke
 use Rattle.sequence.specs.Chunks.{entryRun, Chunk, State, inputsAt, outputsAt, lengthOf, lentOf, chunkCall, chunkInputs, chunkOutcome, positionsOf, plainAccepted, entered, isDone}
 use Rattle.sequence.proofs.Cells.{nothing→good, good→nothing, nothing→good-incoming, good→nothing-incoming}
 use Rattle.sequence.proofs.Places.{stateOf, length-with-chunk, AllGood, good-before, good-chunk, good-with-chunk}
-use Rattle.sequence.proofs.Plain.{split, limits→limited, limited→limits, PlainGood, plain→good, good→plain}
+use Rattle.sequence.proofs.Plain.{limits→limited, limited→limits, PlainGood, plain→good, good→plain}
 
 -- ---- the caches of a history
 
@@ -133,9 +134,9 @@ module _ (s : Call) (history : List Position) (r : Chunk) where
       let i = inputsFit (chunkCall s (length history) r) (chunkInputs (stateOf s history) r) in
       let o = outputsFit (chunkCall s (length history) r) (lentOf r) in
       let t = takes (r .entry) (chunkCall s (length history) r) in
-      let e2 = split (t && i && o) (plainAccepted s (history ++ positionsOf s r)) e in
-      let e1 = split (t && i) o (e2 .0) in
-      let e0 = split t i (e1 .0) in
+      let e2 = both-true (t && i && o) (plainAccepted s (history ++ positionsOf s r)) e in
+      let e1 = both-true (t && i) o (e2 .0) in
+      let e0 = both-true t i (e1 .0) in
       (e0 .0, e0 .1, e1 .1, plain→good s (history ++ positionsOf s r) (e2 .1))
 
   -- the plain call over the history and an entered chunk is accepted

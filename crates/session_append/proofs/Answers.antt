@@ -9,6 +9,7 @@ use borrow.Author.Tests.{eqb-true, le-leb, lt-leb}
 use lib.Dec.{eqb}
 use lib.Ieee.{Float}
 use lib.ListN.{length, take}
+use Rattle.bool_laws.proofs.Tests.{both-true}
 use Rattle.tensor_laws.proofs.Parts.{withPart}
 use Rattle.call.specs.Contents.{at}
 use Rattle.contents.specs.Faults.{indexOr}
@@ -32,13 +33,9 @@ use Rattle.session_writer.proofs.Rows.{length-positionBytes}
 
 -- ---- what the test of lengths says
 
-both : (a b : Bool) → a && b ≡ true → (a ≡ true) × (b ≡ true)
-both true b e = (refl, e)
-both false b e = (e, absurd (false≢true e))
-
 pub caches-fit : (z : Sizes) (n keys values : ℕ) → sizesHold z ≡ true → n ≤ 2048 → cachesFit z n keys values ≡ true → CachesFit z n keys values
 caches-fit z n keys values l h e =
-    let t = both (eqb keys (rowsOf z * n * z .size)) (eqb values (rowsOf z * n * z .vsize)) e in
+    let t = both-true (eqb keys (rowsOf z * n * z .size)) (eqb values (rowsOf z * n * z .vsize)) e in
     record {
       limits = l;
       positions = h;

@@ -1,18 +1,18 @@
 // The elements of a whole record, tested as bit patterns.
 ghost use mathlib.Core.Path.{_≡_};
-ghost use mathlib.Core.Bool.{true, cond};
+ghost use mathlib.Core.Bool.{true};
 ghost use Prim.Native.Nat.{_+_, _/_, _≤_};
 ghost use lib.ListN.{length};
 ghost use lib.Ieee.{binary32, ofBits};
+ghost use Rattle.bool_laws.specs.Counts.{tally, countWhere};
 ghost use Rattle.call.specs.Contents.{elementFault};
-ghost use Rattle.session_file.specs.Below.{numberBelow};
 ghost use Rattle.session_file.specs.Sizes.{sizesHold, recordLength, recordStart};
 ghost use Rattle.session_file.specs.Reader.{payloadFault, positionFault};
 use session_file::Sizes;
 
 // 1 where a pattern stands for no number of magnitude at most 65,536, and 0 otherwise.
 fn pattern_fault(bits: u32) -> u32
-    ensures { λ r. ⌜ r ≡ cond (elementFault (ofBits binary32 bits)) 1 0 ⌝ }
+    ensures { λ r. ⌜ r ≡ tally (elementFault (ofBits binary32 bits)) ⌝ }
 {
     if bits % 2147483648 <= 1199570944 {
         return 0;
@@ -23,7 +23,7 @@ fn pattern_fault(bits: u32) -> u32
 // How many elements of a payload are at fault.
 fn payload_faults(payload: &[u8]) -> u32
     requires { ⌜ length (now payload) ≤ 524288 ⌝ }
-    ensures { λ r. ⌜ r ≡ numberBelow (payloadFault (now (payload .entry)) 0) (length (now (payload .entry)) / 4) ⌝ }
+    ensures { λ r. ⌜ r ≡ countWhere (length (now (payload .entry)) / 4) (payloadFault (now (payload .entry)) 0) ⌝ }
 {
     let count = payload.len() / 4;
     let mut faults = 0;

@@ -7,7 +7,8 @@ use lib.IntN.{pos}
 use lib.Ieee.{Float, nan, inf, fin, ofBits, ofFields, odd, toBits, size, span, climb, le, lt, eq, neg}
 use lib.Count.{trailingZeros}
 use lib.ListN.{take, drop, replicate}
-use Rattle.tensor_laws.specs.Layout.{tabulate}
+use Rattle.bool_laws.specs.Counts.{countWhere}
+use Rattle.tensor_laws.specs.Layout.{tabulate, tensorOf}
 use Rattle.call.specs.Contents.{elementFault}
 use Rattle.records.specs.Numbers.{f32Bytes, rowBytes, f32At}
 use Rattle.session_file.specs.declared.Sizes.{Sizes}
@@ -15,9 +16,9 @@ use Rattle.call.specs.declared.Refusal.the-variants.{Limits, InputLength, Posit
 use Rattle.session_file.specs.declared.Reading.{Reading}
 use Rattle.session_file.specs.declared.Reading.the-variants.{SessionRead, NotRead}
 use Rattle.session_file.specs.declared.Saving.the-variants.{Saved, NotSaved}
-use Rattle.session_file.specs.Below.{numberBelow, leastFrom, joined}
+use Rattle.session_file.specs.Below.{leastFrom, joined}
 use Rattle.session_file.specs.Sizes.{sizesHold}
-use Rattle.session_file.specs.Form.{Session, sessionOf, pairBytes, positionBytes, fileOf}
+use Rattle.session_file.specs.Form.{Session, sessionOf, cacheOf, pairBytes, positionBytes, fileOf}
 use Rattle.session_file.specs.Reader.{nextOf, positionFault, walkFrom, readOf, cacheAt, sessionAt}
 use Rattle.session_file.specs.Writer.{Written, refusedWith, beginOf, rowFault, rowsFault, writtenBehind, appendedTo, appendOf}
 
@@ -46,14 +47,14 @@ unfolding fileOf joined positionBytes pairBytes rowBytes f32Bytes toBits size sp
 bytes-of-the-example = refl
 
 session-of-the-example : sessionAt ones (first ++ position) 1 ≡ example
-unfolding sessionAt cacheAt tabulate f32At ofBits ofFields odd trailingZeros
+unfolding sessionAt cacheAt cacheOf tensorOf tabulate f32At ofBits ofFields odd trailingZeros
 session-of-the-example = refl
 
 -- ---- the reader
 
 -- every cut: 11 at byte 0 without the whole first record, no position without the whole second one
 cuts-of-the-example : map (λ n. readOf (take n (first ++ position))) (tabulate 29 (λ n. n)) ≡ replicate 14 (NotRead (Record 0)) ++ (replicate 14 (SessionRead ones 0) ++ (SessionRead ones 1 ∷ []))
-unfolding readOf sizesHold walkFrom nextOf positionFault numberBelow elementFault f32At ofBits ofFields odd trailingZeros le lt eq neg tabulate
+unfolding readOf sizesHold walkFrom nextOf positionFault countWhere elementFault f32At ofBits ofFields odd trailingZeros le lt eq neg tabulate
 cuts-of-the-example = refl
 
 -- a record of kind 2 with that payload length, key and value bytes
@@ -101,7 +102,7 @@ damaged : map readOf (
     ∷ NotRead (Record 14)
     ∷ NotRead (Position 0)
     ∷ [])
-unfolding readOf sizesHold walkFrom nextOf positionFault numberBelow elementFault f32At ofBits ofFields odd trailingZeros le lt eq neg
+unfolding readOf sizesHold walkFrom nextOf positionFault countWhere elementFault f32At ofBits ofFields odd trailingZeros le lt eq neg
 damaged = refl
 
 -- the edges of the elements: -0, the least subnormal, 65,536 and -65,536 are sound; the next number above 65,536, infinities and a NaN are not
@@ -119,7 +120,7 @@ edges : map reads (
     ∷ (1 ∷ 0 ∷ 192 ∷ 255 ∷ [])
     ∷ [])
     ≡ (SessionRead ones 1 ∷ SessionRead ones 1 ∷ SessionRead ones 1 ∷ SessionRead ones 1 ∷ NotRead (Position 0) ∷ NotRead (Position 0) ∷ NotRead (Position 0) ∷ NotRead (Position 0) ∷ [])
-unfolding readOf sizesHold walkFrom nextOf positionFault numberBelow elementFault f32At ofBits ofFields odd trailingZeros le lt eq neg
+unfolding readOf sizesHold walkFrom nextOf positionFault countWhere elementFault f32At ofBits ofFields odd trailingZeros le lt eq neg
 edges = refl
 
 -- ---- the 2,049th position: behind 2,048 whole ones a right head is refusal 1, whole or cut, a wrong one 11, and five bytes are a cut tail
@@ -151,7 +152,7 @@ limits-first = refl
 
 -- behind a cut tail, which is written over; bytes behind the new end stay
 appended : appendOf (first ++ (8 ∷ 0 ∷ 0 ∷ replicate 11 9 ++ spare)) 17 1 (one ∷ []) (two ∷ []) ≡ record { answer = Saved 1 28; buffer = first ++ (position ++ spare) }
-unfolding appendOf appendedTo writtenBehind leastFrom rowsFault rowFault readOf sizesHold walkFrom nextOf positionFault numberBelow elementFault f32At ofBits ofFields odd trailingZeros le lt eq neg joined positionBytes pairBytes rowBytes f32Bytes toBits size span climb
+unfolding appendOf appendedTo writtenBehind leastFrom rowsFault rowFault readOf sizesHold walkFrom nextOf positionFault countWhere elementFault f32At ofBits ofFields odd trailingZeros le lt eq neg joined positionBytes pairBytes rowBytes f32Bytes toBits size span climb
 appended = refl
 
 -- the order of refusals: a file that ends behind the buffer, the file's own, a position too many, lengths, elements with the position as in the file, room; none is added at the end of the last whole record
@@ -168,5 +169,5 @@ order : map (λ (w : Written). w .answer) (
     ∷ adds 20 0 [] []
     ∷ [])
     ≡ NotSaved Room ∷ NotSaved (Record 0) ∷ NotSaved Limits ∷ NotSaved InputLength ∷ NotSaved (Position 2) ∷ NotSaved Room ∷ Saved 0 14 ∷ []
-unfolding appendOf appendedTo writtenBehind leastFrom rowsFault rowFault readOf sizesHold walkFrom nextOf positionFault numberBelow elementFault f32At ofBits ofFields odd trailingZeros le lt eq neg
+unfolding appendOf appendedTo writtenBehind leastFrom rowsFault rowFault readOf sizesHold walkFrom nextOf positionFault countWhere elementFault f32At ofBits ofFields odd trailingZeros le lt eq neg
 order = refl

@@ -4,3 +4,5 @@ pub mod Joined
 pub mod Walks
 pub mod Limits
 pub mod Elements
+pub mod Caches
+pub mod Nexts

@@ -4,8 +4,9 @@ use mathlib.Core.Bool.{true}
 use Prim.Native.Nat.{ℕ, _*_, _≤_}
 use native.Mathlib.Nat.{mul-le-mul}
 use native.Mathlib.Omega.{arith}
+use Rattle.bool_laws.proofs.Tests.{four}
 use Rattle.call.specs.Limits.{within}
-use Rattle.call.proofs.Facts.{holds, four, bounds}
+use Rattle.call.proofs.Facts.{holds, bounds}
 use Rattle.session_file.specs.declared.Sizes.{Sizes}
 use Rattle.session_file.specs.Sizes.{sizesHold, mostPositions, rowsOf, pairLength, payloadLength, recordLength, recordStart}
 

@@ -6,10 +6,11 @@ use mathlib.Core.List.{List}
 use Prim.Native.Nat.{ℕ, zero, suc, _+_, _≤_, _<_}
 use native.Mathlib.Nat.{suc-mul, zero-mul}
 use native.Mathlib.Omega.{arith}
-use lib.Dec.{ltb}
+use lib.Dec.{leb, ltb}
 use lib.ListN.{length}
 use native.Mathlib.Decide.{decLt}
 use borrow.Author.Tests.{ltb-true, ltb-false, leb-true}
+use Rattle.bool_laws.proofs.Tests.{both-true}
 use Rattle.records.specs.Records.{headIs}
 use Rattle.session_file.specs.declared.Sizes.{Sizes}
 use Rattle.session_file.specs.declared.Next.{Next}
@@ -136,10 +137,6 @@ inside-of z file (suc n) h each =
     let w = whole→record z file n (each n (omega arith) (omega arith) .0) in
     rw (next-at z n) (w .1)
 
-and-first : (a b : Bool) → (a && b) ≡ true → a ≡ true
-and-first true b e = refl
-and-first false b e = absurd (true≢false (sym e))
-
 walked→standing : (z y : Sizes) (file : List ℕ) (n : ℕ) → firstWhole file ≡ true → sizesHold z ≡ true → z ≡ sizesAt file → Walked z file mostPositions 0 y n → Standing file y n
 walked→standing z y file n f h s w =
     subst (λ (x : Sizes). Standing file x n) (sym (w .sizes)) (record {
@@ -147,7 +144,7 @@ walked→standing z y file n f h s w =
       sizes = s;
       limits = h;
       most = omega (arith, w .high);
-      inside = inside-of z file n (leb-true 14 (length file) (and-first _ _ f)) (w .each);
+      inside = inside-of z file n (leb-true 14 (length file) (both-true (leb 14 (length file)) (headIs file 0 8 1) f .0)) (w .each);
       heads = λ p l. whole→record z file p (w .each p (omega arith) l .0) .0;
       sound = λ p l. w .each p (omega arith) l .1;
     })
@@ -293,7 +290,7 @@ refused→standing file r f h e =
         sizes = refl;
         limits = h;
         most = omega (arith, w .high);
-        inside = inside-of z file (w .n) (leb-true 14 (length file) (and-first _ _ f)) (w .each);
+        inside = inside-of z file (w .n) (leb-true 14 (length file) (both-true (leb 14 (length file)) (headIs file 0 8 1) f .0)) (w .each);
         heads = λ p l. whole→record z file p (w .each p (omega arith) l .0) .0;
         sound = λ p l. w .each p (omega arith) l .1;
       },

@@ -1,18 +1,14 @@
 -- Tests over the numbers below n, and lists that are made in turn. Definitions only.
 use mathlib.Core.Bool.{Bool, cond}
 use mathlib.Core.List.{List, [], _++_}
-use Prim.Native.Nat.{ℕ, zero, suc, _+_}
+use Prim.Native.Nat.{ℕ, zero, suc}
 use lib.Dec.{ltb}
+use Rattle.bool_laws.specs.Counts.{countWhere}
 use Rattle.call.specs.Contents.{Found, nothing, at}
 
--- how many of 0 .. n - 1 pass the test
-unfoldable pub numberBelow : (ℕ → Bool) → ℕ → ℕ
-numberBelow test zero = 0
-numberBelow test (suc n) = numberBelow test n + cond (test n) 1 0
-
--- one of them does
+-- one of 0 .. n - 1 passes the test
 abbrev pub anyBelow : (ℕ → Bool) → ℕ → Bool
-anyBelow test n = ltb 0 (numberBelow test n)
+anyBelow test n = ltb 0 (countWhere n test)
 
 -- the least from i on, of n numbers, that does
 unfoldable pub leastFrom : (ℕ → Bool) → (n i : ℕ) → Found

@@ -1,8 +1,9 @@
 -- The bytes of a saved session: a record of kind 1 with its sizes, then one of kind 2 for each position. Definitions only.
 use mathlib.Core.List.{List, _++_}
 use Prim.Native.Nat.{ℕ, _+_, _*_}
-use lib.Ieee.{Float}
-use lib.ListN.{take, drop}
+use lib.Ieee.{Float, nan}
+use lib.ListN.{getD, take, drop}
+use Rattle.tensor_laws.specs.Layout.{tensorOf}
 use Rattle.records.specs.Numbers.{u16Bytes, rowBytes}
 use Rattle.records.specs.Records.{recordBytes}
 use Rattle.session_file.specs.declared.Sizes.{Sizes}
@@ -19,9 +20,17 @@ pub record Session : Type 0 where
 abbrev pub sessionOf : Sizes → ℕ → (keys values : List Float) → Session
 sessionOf z n keys values = record { sizes = z; positions = n; keys = keys; values = values }
 
--- row r of position p in a cache of n positions, whose rows have that size
+-- element k of row r of position p in a cache of n positions, whose rows have that size, and the row
+abbrev pub cacheCell : (n size : ℕ) → List Float → (p r k : ℕ) → Float
+cacheCell n size cache p r k = getD cache ((r * n + p) * size + k) nan
+
 abbrev pub cacheRow : (n size : ℕ) → List Float → (p r : ℕ) → List Float
 cacheRow n size cache p r = take size (drop ((r * n + p) * size) cache)
+
+-- the cache of n positions with those elements: the tensor of one batch whose heads are the rows of a position
+unfoldable pub cacheOf : (rows n size : ℕ) → (ℕ → ℕ → ℕ → Float) → List Float
+unfolding tensorOf
+cacheOf rows n size cell = tensorOf 4 1 rows n size (λ b r p k. cell p r k)
 
 -- the key row and then the value row of batch and key head r at position p
 unfoldable pub pairBytes : Session → (p r : ℕ) → List ℕ

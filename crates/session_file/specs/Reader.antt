@@ -1,11 +1,11 @@
 -- What a reader makes of any bytes, in one walk from left to right, and what it gives back. Definitions only.
 use mathlib.Core.Bool.{Bool, true, false, _&&_, cond}
 use mathlib.Core.List.{List}
-use Prim.Native.Nat.{ℕ, zero, suc, _+_, _*_, _/_, _%_}
+use Prim.Native.Nat.{ℕ, zero, suc, _+_, _*_}
 use lib.Dec.{leb, ltb, eqb}
 use lib.Ieee.{Float}
 use lib.ListN.{length}
-use Rattle.tensor_laws.specs.Layout.{tabulate}
+use Rattle.bool_laws.specs.Counts.{countWhere}
 use Rattle.call.specs.Contents.{elementFault}
 use Rattle.records.specs.Numbers.{u16At, f32At}
 use Rattle.records.specs.Records.{headIs}
@@ -15,9 +15,9 @@ use Rattle.session_file.specs.declared.Next.{Next}
 use Rattle.session_file.specs.declared.Next.the-variants.{Ended, Wrong, Cut, Whole}
 use Rattle.session_file.specs.declared.Reading.{Reading}
 use Rattle.session_file.specs.declared.Reading.the-variants.{SessionRead, NotRead}
-use Rattle.session_file.specs.Below.{numberBelow, anyBelow}
+use Rattle.session_file.specs.Below.{anyBelow}
 use Rattle.session_file.specs.Sizes.{sizesHold, mostPositions, rowsOf, pairLength, payloadLength, recordLength, recordStart}
-use Rattle.session_file.specs.Form.{Session, sessionOf}
+use Rattle.session_file.specs.Form.{Session, sessionOf, cacheOf}
 
 -- ---- the walk
 
@@ -33,7 +33,7 @@ payloadFault file from i = elementFault (f32At file (from + i * 4))
 
 -- one of the elements of the whole record of position p is such
 unfoldable pub positionFault : Sizes → List ℕ → ℕ → Bool
-unfolding numberBelow elementFault f32At
+unfolding countWhere elementFault f32At
 positionFault z file p = anyBelow (payloadFault file (recordStart z p + 6)) (rowsOf z * (z .size + z .vsize))
 
 -- 2,048 positions are whole: a right head is one too many, its payload not looked at
@@ -72,12 +72,14 @@ readOf file = let walk = walkFrom (sizesAt file) file mostPositions 0 in cond (f
 
 -- ---- the positions, in cache order
 
--- n positions' rows of that size in cache order, which begin `behind` bytes into each pair of rows
+-- element k of row r of position p, where the rows begin `behind` bytes into each pair of rows
+abbrev pub fileCell : Sizes → List ℕ → (behind p r k : ℕ) → Float
+fileCell z file behind p r k = f32At file (recordStart z p + 6 + r * pairLength z + behind + k * 4)
+
+-- n positions' rows of that size in cache order
 unfoldable pub cacheAt : Sizes → List ℕ → (n behind size : ℕ) → List Float
-unfolding tabulate f32At
-cacheAt z file n behind size =
-    tabulate (rowsOf z * n * size)
-    (λ i. let row = i / size in f32At file (recordStart z (row % n) + 6 + row / n * pairLength z + behind + i % size * 4))
+unfolding cacheOf f32At
+cacheAt z file n behind size = cacheOf (rowsOf z) n size (fileCell z file behind)
 
 -- the session of n positions that stands in a file
 unfoldable pub sessionAt : Sizes → List ℕ → ℕ → Session

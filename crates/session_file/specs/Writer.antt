@@ -5,6 +5,7 @@ use Prim.Native.Nat.{ℕ, _+_}
 use lib.Dec.{leb}
 use lib.Ieee.{Float, nan}
 use lib.ListN.{length, getD, take}
+use Rattle.bool_laws.specs.Counts.{countWhere}
 use Rattle.call.specs.Contents.{Found, nothing, at, elementFault}
 use Rattle.records.specs.Records.{writtenAt}
 use Rattle.session_file.specs.declared.Sizes.{Sizes}
@@ -14,7 +15,7 @@ use Rattle.session_file.specs.declared.Reading.{Reading}
 use Rattle.session_file.specs.declared.Reading.the-variants.{SessionRead, NotRead}
 use Rattle.session_file.specs.declared.Saving.{Saving}
 use Rattle.session_file.specs.declared.Saving.the-variants.{Saved, NotSaved}
-use Rattle.session_file.specs.Below.{numberBelow, anyBelow, leastFrom, joined}
+use Rattle.session_file.specs.Below.{anyBelow, leastFrom, joined}
 use Rattle.session_file.specs.Sizes.{sizesHold, mostPositions, rowsOf, recordStart}
 use Rattle.session_file.specs.Form.{Session, sessionOf, cacheRow, positionBytes, sizesBytes}
 use Rattle.session_file.specs.Reader.{readOf, cachesFit}
@@ -43,12 +44,12 @@ beginOf buffer z =
 
 -- an element of a row is not a number of magnitude at most 65,536
 unfoldable pub rowFault : List Float → Bool
-unfolding numberBelow elementFault
+unfolding countWhere elementFault
 rowFault row = anyBelow (λ k. elementFault (getD row k nan)) (length row)
 
 -- one of the rows of position p of a session is such
 unfoldable pub rowsFault : Session → ℕ → Bool
-unfolding numberBelow rowFault
+unfolding countWhere rowFault
 rowsFault s p =
     anyBelow (λ r. rowFault (cacheRow (s .positions) (s .sizes .size) (s .keys) p r) || rowFault (cacheRow (s .positions) (s .sizes .vsize) (s .values) p r))
     (rowsOf (s .sizes))

@@ -10,6 +10,8 @@ use lib.Ieee.{Float, nan}
 use lib.ListN.{length, getD, take, drop, length-append, length-take}
 use lib.Seq.{length-take-le, take-take, take-at, drop-at}
 use borrow.Author.Tests.{eqb-true}
+use Rattle.session_file.proofs.Caches.{by-cells, length-row, row-cell}
+use Rattle.bool_laws.proofs.Tests.{both-true}
 use Rattle.call.specs.Contents.{nothing, elementFault}
 use Rattle.records.specs.Records.{writtenAt}
 use Rattle.session_file.specs.declared.Sizes.{Sizes}
@@ -24,10 +26,8 @@ use Rattle.session_file.proofs.Below.{none→each, least-none→each}
 use Rattle.session_file.proofs.Walks.{Standing, read→standing}
 use Rattle.session_laws.specs.Sessions.{AllWithin, Savable, bothOf}
 use Rattle.session_laws.specs.Statements.{AllFit, AppendHolds}
-use Rattle.session_laws.proofs.Caches.{by-cells}
 use Rattle.session_laws.proofs.Cuts.{position-mono, record-end, standing-cut, cut→read}
 use Rattle.session_laws.proofs.Given.{first-all, session-cut, standing→savable}
-use Rattle.session_laws.proofs.Stands.{length-row, row-cell}
 use Rattle.session_laws.proofs.Files.{length-both, standing-both, session-both}
 use Rattle.session_laws.proofs.Saved.{ends→read}
 use Rattle.session_laws.proofs.Passed.{Passed, saved→passed}
@@ -60,10 +60,6 @@ all-within rows n size cache long fit sound i h = (
       ap elementFault (sym (row-cell rows n size cache long p r hp hr k hk)) ∙ row-sound (cacheRow n size cache p r) (sound p r hp hr) k (omega arith))
       i (omega (arith, long, h)),
 )
-
-both-true : (a b : Bool) → (a && b) ≡ true → (a ≡ true) × (b ≡ true)
-both-true true b e = (refl, e)
-both-true false b e = absurd (true≢false (sym e))
 
 -- ---- the buffer that is left
 

@@ -8,7 +8,8 @@ use native.Mathlib.Omega.{arith}
 use lib.Dec.{leb}
 use lib.ListN.{length, take, drop, length-append, length-drop}
 use borrow.Author.Tests.{leb-true}
-use Rattle.tensor_laws.proofs.Tabulate.{length-tabulate, none-long}
+use Rattle.session_laws.proofs.Given.{length-cacheAt}
+use Rattle.tensor_laws.proofs.Tabulate.{none-long}
 use Rattle.session_file.specs.declared.Sizes.{Sizes}
 use Rattle.call.specs.declared.Refusal.the-variants.{Limits, Room}
 use Rattle.session_file.specs.declared.Saving.the-variants.{Saved}
@@ -27,8 +28,7 @@ pub no-cells : (rows size : ℕ) → rows * 0 * size ≡ 0
 no-cells rows size = ap (λ (i : ℕ). i * size) (mul-zero rows) ∙ zero-mul size
 
 no-cache : (z : Sizes) (file : List ℕ) (behind size : ℕ) → cacheAt z file 0 behind size ≡ []
-unfolding cacheAt
-no-cache z file behind size = none-long (cacheAt z file 0 behind size) (length-tabulate (rowsOf z * 0 * size) _ ∙ no-cells (rowsOf z) size)
+no-cache z file behind size = none-long (cacheAt z file 0 behind size) (length-cacheAt z file 0 behind size ∙ no-cells (rowsOf z) size)
 
 no-position : (z : Sizes) (file : List ℕ) → sessionAt z file 0 ≡ sessionOf z 0 [] []
 unfolding sessionAt

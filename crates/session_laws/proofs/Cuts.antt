@@ -11,6 +11,9 @@ use lib.Dec.{leb, ltb}
 use lib.ListN.{length, take}
 use lib.Seq.{length-take-le}
 use borrow.Author.Tests.{lt-ltb, le-ltb, le-leb, lt-leb}
+use Rattle.session_file.proofs.Nexts.{next-ended, next-cut, next-whole}
+use Rattle.bool_laws.proofs.Counts.{count-agree}
+use Rattle.bool_laws.proofs.Tests.{both-true}
 use Rattle.call.specs.Contents.{elementFault}
 use Rattle.records.specs.Records.{headIs}
 use Rattle.records.proofs.Places.{u16At-take, f32At-take, headIs-take}
@@ -21,7 +24,6 @@ use Rattle.session_file.specs.declared.Next.the-variants.{Ended, Cut, Whole}
 use Rattle.session_file.specs.declared.Reading.the-variants.{SessionRead, NotRead}
 use Rattle.session_file.specs.Sizes.{sizesHold, mostPositions, rowsOf, payloadLength, recordLength, recordStart}
 use Rattle.session_file.specs.Reader.{nextOf, payloadFault, positionFault, atMost, onward, walkFrom, sizesAt, firstWhole, readOf}
-use Rattle.session_file.proofs.Below.{number-ext}
 use Rattle.session_file.proofs.Walks.{Standing, next-at, Stops}
 
 -- ---- positions rise
@@ -35,20 +37,9 @@ record-end z p n l = rw (sym (next-at z p)) (position-mono z (suc p) n l)
 
 -- ---- what stands at a place
 
-module _ (z : Sizes) (file : List ℕ) (p : ℕ) where
-  pub ended-at : length file < recordStart z p + 6 → nextOf z file p ≡ Ended
-  unfolding nextOf
-  ended-at l = rw (lt-ltb (length file) (recordStart z p + 6) l)
-
-  pub cut-at : recordStart z p + 6 ≤ length file → headIs file (recordStart z p) (payloadLength z) 2 ≡ true → length file < recordStart z p + recordLength z → nextOf z file p ≡ Cut
-  unfolding nextOf
-  cut-at a h b = rw (le-ltb (length file) (recordStart z p + 6) a, h, lt-ltb (length file) (recordStart z p + recordLength z) b)
-
-  pub whole-at : headIs file (recordStart z p) (payloadLength z) 2 ≡ true → recordStart z p + recordLength z ≤ length file → nextOf z file p ≡ Whole
-  unfolding nextOf
-  whole-at h b =
-      let a : recordStart z p + 6 ≤ length file = omega arith in
-      rw (le-ltb (length file) (recordStart z p + 6) a, h, le-ltb (length file) (recordStart z p + recordLength z) b)
+-- a right head and a payload that is all there are a whole record
+pub whole-at : (z : Sizes) (file : List ℕ) (p : ℕ) → headIs file (recordStart z p) (payloadLength z) 2 ≡ true → recordStart z p + recordLength z ≤ length file → nextOf z file p ≡ Whole
+whole-at z file p h b = next-whole z file p (omega arith) h b
 
 -- ---- the walk to a place where it stops
 
@@ -87,11 +78,7 @@ read-as z file k f s h l stop each =
 
 -- a whole first record has the right head
 pub first→head : (file : List ℕ) → firstWhole file ≡ true → headIs file 0 8 1 ≡ true
-first→head file f = second (leb 14 (length file)) (headIs file 0 8 1) f
-  where
-    second : (a b : Bool) → (a && b) ≡ true → b ≡ true
-    second true b e = e
-    second false b e = absurd (true≢false (sym e))
+first→head file f = both-true (leb 14 (length file)) (headIs file 0 8 1) f .1
 
 module _ (file : List ℕ) (z : Sizes) (c : ℕ) (inside : c ≤ length file) where
   long : length (take c file) ≡ c
@@ -117,7 +104,7 @@ module _ (file : List ℕ) (z : Sizes) (c : ℕ) (inside : c ≤ length file) wh
       let from = recordStart z p + 6 in
       let w = z .size + z .vsize in
       let all : rowsOf z * w * 4 ≡ payloadLength z = mul-assoc (rowsOf z) w 4 in
-      ap (ltb 0) (number-ext (payloadFault (take c file) from) (payloadFault file from) (rowsOf z * w) (λ i h. ap elementFault (f32At-take c (from + i * 4) file (omega arith))))
+      ap (ltb 0) (count-agree (rowsOf z * w) (payloadFault (take c file) from) (payloadFault file from) (λ i h. ap elementFault (f32At-take c (from + i * 4) file (omega arith))))
 
   -- the positions that end before the cut stand in what is left
   pub standing-cut : (n k : ℕ) → 14 ≤ c → Standing file z n → k ≤ n → recordStart z k ≤ c → Standing (take c file) z k
@@ -171,11 +158,11 @@ tail→read file z n c s l inside h tail = standing→read (take c file) z k kep
         subst (λ (i : ℕ). (headIs file (recordStart z i) (payloadLength z) 2 ≡ true) × (i < mostPositions)) m (tail (omega (arith, ap (recordStart z) m)))
 
     stop : Dec (c < recordStart z k + 6) → Stops z (take c file) k
-    stop (yes a) = inl (ended-at z (take c file) k (omega (arith, long file z c inside)))
+    stop (yes a) = inl (next-ended z (take c file) k (omega (arith, long file z c inside)))
     stop (no a) =
         let b = head (decLt k n) (omega arith) in
         let m = long file z c inside in
-        inr (cut-at z (take c file) k (omega arith) (headIs-take c (recordStart z k) (payloadLength z) 2 file (omega arith) ∙ b .0) (omega (arith, whole-records z c l .1)), b .1)
+        inr (next-cut z (take c file) k (omega arith) (headIs-take c (recordStart z k) (payloadLength z) 2 file (omega arith) ∙ b .0) (omega (arith, whole-records z c l .1)), b .1)
 
 -- a cut before the end of the positions that stand
 pub cut→read : (file : List ℕ) (z : Sizes) (n c : ℕ) → Standing file z n → 14 ≤ c → c ≤ recordStart z n → readOf (take c file) ≡ SessionRead z ((c - 14) / recordLength z)

@@ -10,20 +10,20 @@ use lib.Ieee.{Float}
 use lib.ListN.{length, take, length-append}
 use lib.Seq.{take-at}
 use borrow.Author.Tests.{le-leb, lt-ltb, le-ltb}
+use Rattle.session_file.proofs.Caches.{getD-cache, cache-ext}
 use Rattle.records.specs.Numbers.{f32At}
 use Rattle.records.specs.Records.{headIs}
 use Rattle.records.proofs.Places.{f32At-take, headIs-take}
 use Rattle.session_file.specs.declared.Sizes.{Sizes}
 use Rattle.session_file.specs.Below.{joined}
 use Rattle.session_file.specs.Sizes.{sizesHold, mostPositions, rowsOf, pairLength, payloadLength, recordLength, recordStart}
-use Rattle.session_file.specs.Form.{Session, sessionOf, positionBytes, sizesBytes}
-use Rattle.session_file.specs.Reader.{positionFault, firstWhole, sizesAt, cacheAt, sessionAt}
+use Rattle.session_file.specs.Form.{Session, sessionOf, positionBytes, sizesBytes, cacheCell, cacheOf}
+use Rattle.session_file.specs.Reader.{positionFault, firstWhole, sizesAt, cacheAt, sessionAt, fileCell}
 use Rattle.session_file.proofs.Joined.{length-joined, joined-split}
 use Rattle.session_file.proofs.Walks.{Standing}
-use Rattle.session_laws.specs.Sessions.{Savable, cacheCell, cacheOf, cellBehind, bothOf}
-use Rattle.session_laws.proofs.Caches.{getD-cache, cache-ext}
+use Rattle.session_laws.specs.Sessions.{Savable, cellBehind, bothOf}
 use Rattle.session_laws.proofs.Cuts.{first→head, record-end, sizes-kept, fault-kept}
-use Rattle.session_laws.proofs.Given.{fileCell, cacheAt-is, pair-end}
+use Rattle.session_laws.proofs.Given.{cacheAt-is, pair-end}
 use Rattle.session_laws.proofs.Stands.{length-position, head-stands, key-stands, value-stands, fault-stands}
 
 -- ---- the first record

@@ -10,23 +10,19 @@ use lib.Dec.{T}
 use lib.Ieee.{Float, nan, binary32, fits}
 use lib.Ieee.Bits.{ofBits-fits}
 use lib.ListN.{length, getD, take}
+use Rattle.session_file.proofs.Caches.{length-cache, getD-cache, cache-ext, by-cells, cache-of-cells}
 use Rattle.call.specs.Contents.{elementFault}
 use Rattle.records.specs.Numbers.{u32At, f32At}
 use Rattle.records.proofs.Places.{f32At-take}
 use Rattle.session_file.specs.declared.Sizes.{Sizes}
 use Rattle.session_file.specs.declared.Reading.the-variants.{SessionRead}
 use Rattle.session_file.specs.Sizes.{rowsOf, pairLength, recordLength, recordStart}
-use Rattle.session_file.specs.Form.{Session, sessionOf}
-use Rattle.session_file.specs.Reader.{positionFault, payloadFault, readOf, cacheAt, sessionAt}
+use Rattle.session_file.specs.Form.{Session, sessionOf, cacheCell, cacheOf}
+use Rattle.session_file.specs.Reader.{positionFault, payloadFault, readOf, cacheAt, sessionAt, fileCell}
 use Rattle.session_file.proofs.Below.{none→each}
 use Rattle.session_file.proofs.Walks.{Standing, read→standing}
-use Rattle.session_laws.specs.Sessions.{AllWithin, Savable, cacheCell, cacheOf, firstPositions}
-use Rattle.session_laws.proofs.Caches.{length-cache, getD-cache, cache-ext, by-cells, cache-of-cells}
+use Rattle.session_laws.specs.Sessions.{AllWithin, Savable, firstPositions}
 use Rattle.session_laws.proofs.Cuts.{record-end}
-
--- the element of a file in row r of position p, `behind` bytes into its pair of rows
-abbrev pub fileCell : Sizes → List ℕ → (behind p r k : ℕ) → Float
-fileCell z file behind p r k = f32At file (recordStart z p + 6 + r * pairLength z + behind + k * 4)
 
 pub cacheAt-is : (z : Sizes) (file : List ℕ) (n behind size : ℕ) → cacheAt z file n behind size ≡ cacheOf (rowsOf z) n size (fileCell z file behind)
 unfolding cacheAt cacheOf

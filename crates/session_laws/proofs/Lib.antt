@@ -1,4 +1,3 @@
-pub mod Caches
 pub mod Cuts
 pub mod Given
 pub mod Stands

@@ -10,6 +10,7 @@ use lib.Dec.{ltb}
 use lib.ListN.{length, take}
 use lib.Seq.{length-take-le}
 use borrow.Author.Tests.{ltb-false, le-ltb}
+use Rattle.session_file.proofs.Nexts.{next-cut, next-wrong}
 use Rattle.call.specs.declared.Refusal.{Refusal}
 use Rattle.call.specs.declared.Refusal.the-variants.{Limits, Position, Record}
 use Rattle.records.specs.Records.{headIs}
@@ -22,7 +23,7 @@ use Rattle.session_file.specs.Sizes.{sizesHold, mostPositions, payloadLength, r
 use Rattle.session_file.specs.Reader.{nextOf, positionFault, atMost, onward, walkFrom, sizesAt, firstWhole, readOf}
 use Rattle.session_file.proofs.Walks.{Standing, whole→record, cut→record, Fault, refused→standing}
 use Rattle.session_laws.specs.Statements.{RefusedHolds}
-use Rattle.session_laws.proofs.Cuts.{record-end, whole-at, cut-at, fault-kept, standing-cut, tail→read}
+use Rattle.session_laws.proofs.Cuts.{record-end, whole-at, fault-kept, standing-cut, tail→read}
 use Rattle.session_laws.proofs.Saved.{cut-missing}
 
 -- ---- a walk to a record that is at fault
@@ -76,10 +77,6 @@ wrong→head z file p e =
     let w = wrong-by (ltb (length file) (recordStart z p + 6)) (headIs file (recordStart z p) (payloadLength z) 2) (ltb (length file) (recordStart z p + recordLength z)) (ap isWrong e) in
     (ltb-false _ _ (w .0), w .1)
 
-wrong-at : (z : Sizes) (file : List ℕ) (p : ℕ) → recordStart z p + 6 ≤ length file → headIs file (recordStart z p) (payloadLength z) 2 ≡ false → nextOf z file p ≡ Wrong
-unfolding nextOf
-wrong-at z file p a h = rw (le-ltb (length file) (recordStart z p + 6) a, h)
-
 -- ---- a cut behind the byte that shows the fault
 
 module _ (file : List ℕ) (z : Sizes) (n : ℕ) (s : Standing file z n) (c : ℕ) (inside : c ≤ length file) where
@@ -103,14 +100,14 @@ module _ (file : List ℕ) (z : Sizes) (n : ℕ) (s : Standing file z n) (c : �
   wrong : (r : Refusal) → nextOf z file n ≡ Wrong → r ≡ Record (recordStart z n) → recordStart z n + 6 ≤ c → readOf (take c file) ≡ NotRead r
   wrong r a d l =
       let w = wrong→head z file n a in
-      standing→refused (take c file) z n r (stands (omega arith)) (inr (inl (wrong-at z (take c file) n (omega (arith, long)) (head-kept l ∙ w .1), d)))
+      standing→refused (take c file) z n r (stands (omega arith)) (inr (inl (next-wrong z (take c file) n (omega (arith, long)) (head-kept l ∙ w .1), d)))
 
   -- a right head behind 2,048 positions
   too-many : (r : Refusal) → headIs file (recordStart z n) (payloadLength z) 2 ≡ true → n ≡ mostPositions → r ≡ Limits → recordStart z n + 6 ≤ c → readOf (take c file) ≡ NotRead r
   too-many r h m d l = standing→refused (take c file) z n r (stands (omega arith)) (inr (inr (right (decLt c (recordStart z n + recordLength z)), m, d)))
     where
       right : Dec (c < recordStart z n + recordLength z) → (nextOf z (take c file) n ≡ Cut) ⊎ (nextOf z (take c file) n ≡ Whole)
-      right (yes a) = inl (cut-at z (take c file) n (omega (arith, long)) (head-kept l ∙ h) (omega (arith, long)))
+      right (yes a) = inl (next-cut z (take c file) n (omega (arith, long)) (head-kept l ∙ h) (omega (arith, long)))
       right (no a) = inr (whole-at z (take c file) n (head-kept l ∙ h) (omega (arith, long)))
 
 -- ---- the file

@@ -7,6 +7,7 @@ use native.Mathlib.Omega.{arith}
 use lib.Ieee.{nan}
 use lib.ListN.{length, getD, take, drop}
 use lib.Seq.{ext-getD}
+use Rattle.session_file.proofs.Caches.{getD-cache, length-row, row-cell}
 use Rattle.tensor_laws.proofs.Tabulate.{length-tabulate, getD-tabulate}
 use Rattle.records.specs.Numbers.{rowBytes, f32At, rowAt}
 use Rattle.records.specs.Records.{headBytes}
@@ -16,14 +17,13 @@ use Rattle.session_file.specs.declared.Sizes.{Sizes}
 use Rattle.session_file.specs.Below.{joined}
 use Rattle.session_file.specs.Sizes.{rowsOf, pairLength, payloadLength, recordLength, recordStart}
 use Rattle.session_file.specs.Form.{Session, cacheRow, pairBytes, positionBytes, sizesBytes, fileOf}
-use Rattle.session_file.specs.Reader.{cacheAt, sessionAt}
+use Rattle.session_file.specs.Reader.{cacheAt, sessionAt, fileCell}
 use Rattle.session_file.proofs.Elements.{sound→number}
 use Rattle.session_file.proofs.Joined.{joined-ext}
 use Rattle.session_file.proofs.Walks.{Standing}
-use Rattle.session_laws.proofs.Caches.{getD-cache}
 use Rattle.session_laws.proofs.Cuts.{first→head, record-end}
-use Rattle.session_laws.proofs.Given.{fileCell, cacheAt-is, pair-end, cell-sound, length-cacheAt, standing→savable}
-use Rattle.session_laws.proofs.Stands.{length-row, row-cell, length-payload}
+use Rattle.session_laws.proofs.Given.{cacheAt-is, pair-end, cell-sound, length-cacheAt, standing→savable}
+use Rattle.session_laws.proofs.Stands.{length-payload}
 
 -- parts of one length, one after the other
 joined-parts : (s : List ℕ) (i w n : ℕ) → joined (λ p. take w (drop (i + p * w) s)) n ≡ take (n * w) (drop i s)

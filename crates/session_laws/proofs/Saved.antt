@@ -10,18 +10,19 @@ use native.Mathlib.Omega.{arith}
 use lib.Ieee.{Float}
 use lib.ListN.{length, take, length-take}
 use borrow.Author.Tests.{le-ltb}
+use Rattle.session_file.proofs.Nexts.{next-ended}
+use Rattle.session_file.proofs.Caches.{cache-of-cells}
 use Rattle.records.specs.Records.{headIs}
 use Rattle.session_file.specs.declared.Sizes.{Sizes}
 use Rattle.call.specs.declared.Refusal.the-variants.{Record}
 use Rattle.session_file.specs.declared.Reading.the-variants.{SessionRead, NotRead}
 use Rattle.session_file.specs.Sizes.{mostPositions, rowsOf, payloadLength, recordLength, recordStart}
-use Rattle.session_file.specs.Form.{Session, sessionOf, sizesBytes, fileOf}
+use Rattle.session_file.specs.Form.{Session, sessionOf, sizesBytes, fileOf, cacheCell, cacheOf}
 use Rattle.session_file.specs.Reader.{readOf, sessionAt}
 use Rattle.session_file.proofs.Walks.{Standing, Stops, read→standing, read→stops, cut→record, ended→short}
-use Rattle.session_laws.specs.Sessions.{Savable, cacheCell, cacheOf, cellBehind, firstPositions, bothOf}
+use Rattle.session_laws.specs.Sessions.{Savable, cellBehind, firstPositions, bothOf}
 use Rattle.session_laws.specs.Statements.{wholeIn, ReadHolds, SavedHolds}
-use Rattle.session_laws.proofs.Caches.{cache-of-cells}
-use Rattle.session_laws.proofs.Cuts.{record-end, ended-at, standing→read, whole-records, tail→read, cut→read, first-missing}
+use Rattle.session_laws.proofs.Cuts.{record-end, standing→read, whole-records, tail→read, cut→read, first-missing}
 use Rattle.session_laws.proofs.Given.{session-cut, standing→savable}
 use Rattle.session_laws.proofs.Rewritten.{rewritten}
 use Rattle.session_laws.proofs.Files.{begun-stands, length-both, standing-both, session-both}
@@ -80,7 +81,7 @@ module _ (file : List ℕ) (z : Sizes) (n : ℕ) (s : Standing file z n) where
 
   -- a file that ends with its last position is read as those that stand in it
   pub ends→read : length file ≡ recordStart z n → readOf file ≡ SessionRead z n
-  ends→read e = standing→read file z n s (inl (ended-at z file n (omega arith)))
+  ends→read e = standing→read file z n s (inl (next-ended z file n (omega arith)))
 
 -- every reading that gives a session keeps these promises
 pub read-holds : (file : List ℕ) (z : Sizes) (n : ℕ) → readOf file ≡ SessionRead z n → ReadHolds file z n

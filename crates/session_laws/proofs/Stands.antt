@@ -10,6 +10,7 @@ use lib.Dec.{T}
 use lib.Ieee.{Float, nan, binary32, fits}
 use lib.ListN.{length, getD, drop, length-append}
 use lib.Seq.{getD-take, getD-drop}
+use Rattle.session_file.proofs.Caches.{cell-inside, length-row, row-cell}
 use Rattle.tensor_laws.proofs.Parts.{length-part, row-end}
 use Rattle.tensor_laws.proofs.Tabulate.{getD-tabulate}
 use Rattle.call.specs.Contents.{elementFault}
@@ -20,32 +21,26 @@ use Rattle.records.proofs.Records.{head-written}
 use Rattle.session_file.specs.declared.Sizes.{Sizes}
 use Rattle.session_file.specs.Below.{joined}
 use Rattle.session_file.specs.Sizes.{rowsOf, pairLength, payloadLength, recordLength, recordStart}
-use Rattle.session_file.specs.Form.{Session, cacheRow, pairBytes, positionBytes}
+use Rattle.session_file.specs.Form.{Session, cacheRow, pairBytes, positionBytes, cacheCell}
 use Rattle.session_file.specs.Reader.{payloadFault, positionFault}
 use Rattle.session_file.proofs.Below.{each→none}
 use Rattle.session_file.proofs.Joined.{length-joined, joined-split}
 use Rattle.session_file.proofs.Limits.{sizes→facts}
-use Rattle.session_laws.specs.Sessions.{AllWithin, Savable, cacheCell}
-use Rattle.session_laws.proofs.Caches.{cell-inside}
+use Rattle.session_laws.specs.Sessions.{AllWithin, Savable}
 
 -- ---- a row of a cache
 
 module _ (rows n size : ℕ) (cache : List Float) (long : length cache ≡ rows * n * size) (p r : ℕ) (hp : p < n) (hr : r < rows) where
-  row-inside : (r * n + p) * size + size ≤ length cache
-  row-inside =
-      let a : r * n + p < rows * n = omega (arith, row-end n r rows hr) in
-      omega (arith, row-end size (r * n + p) (rows * n) a)
+  long-row : length (cacheRow n size cache p r) ≡ size
+  long-row = length-row rows n size cache long p r hp hr
 
-  pub length-row : length (cacheRow n size cache p r) ≡ size
-  length-row = length-part ((r * n + p) * size) size cache row-inside
-
-  pub row-cell : (k : ℕ) → k < size → getD (cacheRow n size cache p r) k nan ≡ cacheCell n size cache p r k
-  row-cell k h = getD-take size (drop ((r * n + p) * size) cache) k nan h ∙ getD-drop ((r * n + p) * size) cache k nan
+  cell-at : (k : ℕ) → k < size → getD (cacheRow n size cache p r) k nan ≡ cacheCell n size cache p r k
+  cell-at = row-cell rows n size cache long p r hp hr
 
   row-fits : AllWithin cache → (k : ℕ) → k < length (cacheRow n size cache p r) → T (fits binary32 (getD (cacheRow n size cache p r) k nan))
   row-fits w k h =
-      let l : k < size = omega (arith, length-row, h) in
-      subst (λ (x : Float). T (fits binary32 x)) (sym (row-cell k l)) (w ((r * n + p) * size + k) (omega (arith, cell-inside rows n size p r k hp hr l, long)) .0)
+      let l : k < size = omega (arith, long-row, h) in
+      subst (λ (x : Float). T (fits binary32 x)) (sym (cell-at k l)) (w ((r * n + p) * size + k) (omega (arith, cell-inside rows n size p r k hp hr l, long)) .0)
 
   -- a row whose bytes stand in a file, by its cells
   row-read : AllWithin cache → (file front back : List ℕ) (at : ℕ) → file ≡ front ++ (rowBytes (cacheRow n size cache p r) ++ back) → length front ≡ at
@@ -54,8 +49,8 @@ module _ (rows n size : ℕ) (cache : List Float) (long : length cache ≡ rows 
   row-read w file front back at e l k h =
       let row = cacheRow n size cache p r in
       sym (getD-tabulate size (λ j. f32At file (at + j * 4)) k nan h)
-      ∙ ap (λ (t : List Float). getD t k nan) ((λ i. rowAt (e i) (sym l i) (sym length-row i)) ∙ row-written row (row-fits w) front back)
-      ∙ row-cell k h
+      ∙ ap (λ (t : List Float). getD t k nan) ((λ i. rowAt (e i) (sym l i) (sym long-row i)) ∙ row-written row (row-fits w) front back)
+      ∙ cell-at k h
 
 -- ---- a record
 

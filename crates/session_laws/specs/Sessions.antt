@@ -9,7 +9,7 @@ use lib.ListN.{length, getD}
 use Rattle.tensor_laws.specs.Layout.{tabulate}
 use Rattle.call.specs.Contents.{elementFault}
 use Rattle.session_file.specs.Sizes.{sizesHold, mostPositions, rowsOf}
-use Rattle.session_file.specs.Form.{Session, sessionOf}
+use Rattle.session_file.specs.Form.{Session, sessionOf, cacheCell, cacheOf}
 
 -- every element is an f32 of magnitude at most 65,536
 abbrev pub AllWithin : List Float → Type 0
@@ -23,15 +23,6 @@ pub record Savable (s : Session) : Type 0 where
   pub values-length : length (s .values) ≡ rowsOf (s .sizes) * s .positions * s .sizes .vsize
   pub keys : AllWithin (s .keys)
   pub values : AllWithin (s .values)
-
--- element k of row r at position p of a cache of n positions
-abbrev pub cacheCell : (n size : ℕ) → List Float → (p r k : ℕ) → Float
-cacheCell n size cache p r k = getD cache ((r * n + p) * size + k) nan
-
--- the cache of n positions with those elements
-unfoldable pub cacheOf : (rows n size : ℕ) → (ℕ → ℕ → ℕ → Float) → List Float
-unfolding tabulate
-cacheOf rows n size cell = tabulate (rows * n * size) (λ i. cell (i / size % n) (i / size / n) (i % size))
 
 -- the first m positions of a session
 unfoldable pub firstPositions : Session → ℕ → Session

@@ -1,7 +1,6 @@
 pub mod Products
 pub mod Faults
 pub mod Payloads
-pub mod Nexts
 pub mod Readings
 pub mod Rows
 pub mod Loads

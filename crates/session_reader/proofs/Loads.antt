@@ -9,6 +9,8 @@ use lib.Arith.{digits-lt, digits-div, digits-mod}
 use lib.ListN.{length, getD}
 use lib.Seq.{ext-getD}
 use lib.Ieee.{Float, nan}
+use Rattle.session_file.proofs.Caches.{cache-of-cells}
+use Rattle.session_file.specs.Form.{cacheOf}
 use Rattle.tensor_laws.specs.Layout.{tabulate}
 use Rattle.tensor_laws.proofs.Tabulate.{length-tabulate, getD-tabulate}
 use Rattle.tensor_laws.proofs.Slots.{right-factor-pos}
@@ -60,20 +62,7 @@ module _ (rows n size : ℕ) (cell : ℕ → ℕ → ℕ → Float) (cache : Lis
             getD-row-other size (i % rows * n + i / rows) cache row nan long inside (r * n + q) k (other q r hq hr x) hk
             ∙ t .each q r k hq hr hk (omega arith)
 
-  pub loaded-all : (i : ℕ) → rows * n ≤ i → LoadedTo rows n size cell cache i → cache ≡ tabulate (rows * n * size) (λ j. cell (j / size % n) (j / size / n) (j % size))
+  pub loaded-all : (i : ℕ) → rows * n ≤ i → LoadedTo rows n size cell cache i → cache ≡ cacheOf rows n size cell
   loaded-all i h t =
-      let f : ℕ → Float = λ j. cell (j / size % n) (j / size / n) (j % size) in
-      ext-getD nan cache (tabulate (rows * n * size) f) (t .long ∙ sym (length-tabulate (rows * n * size) f))
-      (λ j l. at-index j (rw (t .long) at l) ∙ sym (getD-tabulate (rows * n * size) f j nan (rw (t .long) at l)))
-    where
-      at-index : (j : ℕ) → j < rows * n * size → getD cache j nan ≡ cell (j / size % n) (j / size / n) (j % size)
-      at-index j l =
-          let m = j / size in
-          let some : 0 < size = right-factor-pos (rows * n) size j l in
-          let below : m < rows * n = div-lt-iff-lt-mul some .1 l in
-          let pos : 0 < n = right-factor-pos rows n m below in
-          let hq : m % n < n = mod-lt m pos in
-          let hr : m / n < rows = div-lt-iff-lt-mul pos .1 below in
-          let early : m % n * rows + m / n < i = omega (arith, digits-lt {q = m % n} {m = n} {r = m / n} {c = rows} hq hr, mul-comm n rows) in
-          let place : (m / n * n + m % n) * size + j % size ≡ j = ap (λ (x : ℕ). x * size + j % size) (div-add-mod' m n) ∙ div-add-mod' j size in
-          ap (λ (x : ℕ). getD cache x nan) (sym place) ∙ t .each (m % n) (m / n) (j % size) hq hr (mod-lt j some) early
+      cache-of-cells rows n size cache cell (t .long)
+      (λ q r k hq hr hk. t .each q r k hq hr hk (omega (arith, digits-lt {q = q} {m = n} {r = r} {c = rows} hq hr, mul-comm n rows)))

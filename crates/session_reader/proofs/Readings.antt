@@ -7,6 +7,7 @@ use borrow.Author.Tests.{le-leb, lt-leb, eqb-true}
 use lib.Dec.{eqb}
 use lib.Ieee.{Float}
 use lib.ListN.{length}
+use Rattle.bool_laws.proofs.Tests.{both-true}
 use Rattle.records.specs.Records.{headIs}
 use Rattle.session_file.specs.declared.Sizes.{Sizes}
 use Rattle.session_file.specs.declared.Reading.{Reading}
@@ -58,11 +59,7 @@ module _ (file : List ℕ) (keys values : List Float) where
 
 -- ---- the lengths that fit
 
-both : (a b : Bool) → a && b ≡ true → (a ≡ true) × (b ≡ true)
-both true b e = (refl, e)
-both false b e = absurd (true≢false (sym e))
-
 pub fits→lengths : (z : Sizes) (n keys values : ℕ) → cachesFit z n keys values ≡ true → (keys ≡ rowsOf z * n * z .size) × (values ≡ rowsOf z * n * z .vsize)
 fits→lengths z n keys values e =
-    let t = both (eqb keys (rowsOf z * n * z .size)) (eqb values (rowsOf z * n * z .vsize)) e in
+    let t = both-true (eqb keys (rowsOf z * n * z .size)) (eqb values (rowsOf z * n * z .vsize)) e in
     (eqb-true keys (rowsOf z * n * z .size) (t .0), eqb-true values (rowsOf z * n * z .vsize) (t .1))

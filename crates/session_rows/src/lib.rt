@@ -3,9 +3,10 @@ ghost use mathlib.Core.Path.{_≡_};
 ghost use Prim.Native.Nat.{_≤_, _<_};
 ghost use lib.ListN.{length, getD};
 ghost use lib.Ieee.{nan};
+ghost use Rattle.bool_laws.specs.Counts.{countWhere};
 ghost use Rattle.call.specs.Contents.{elementFault};
 ghost use Rattle.contents.specs.Faults.{indexOr};
-ghost use Rattle.session_file.specs.Below.{numberBelow, leastFrom};
+ghost use Rattle.session_file.specs.Below.{leastFrom};
 ghost use Rattle.session_file.specs.Form.{sessionOf, cacheRow};
 ghost use Rattle.session_writer.specs.Fits.{CacheRowFits, CachesFit};
 ghost use Rattle.session_file.specs.Writer.{rowsFault};
@@ -14,7 +15,7 @@ use session_file::Sizes;
 // How many elements of a row are at fault.
 fn row_faults(row: &[f32]) -> u32
     requires { ⌜ length (now row) ≤ 256 ⌝ }
-    ensures { λ r. ⌜ r ≡ numberBelow (λ k. elementFault (getD (now (row .entry)) k nan)) (length (now (row .entry))) ⌝ }
+    ensures { λ r. ⌜ r ≡ countWhere (length (now (row .entry))) (λ k. elementFault (getD (now (row .entry)) k nan)) ⌝ }
 {
     let mut faults = 0;
     let mut i = 0;

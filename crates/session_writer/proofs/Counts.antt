@@ -1,4 +1,4 @@
--- Tests over the numbers below n, one number after the other: how many pass, when none does, and the least that does. Assumes nothing.
+-- Tests over the numbers below n, one number after the other: when one passes, and the least that does. Assumes nothing.
 use mathlib.Core.Path.{_≡_, refl, sym, ap, _∙_, subst}
 use native.Mathlib.Nat.{zero-add}
 use mathlib.Core.Bool.{Bool, true, false, cond, true≢false}
@@ -6,23 +6,11 @@ use Prim.Native.Nat.{ℕ, zero, suc, _+_, _≤_, _<_}
 use native.Mathlib.Decide.{decLt}
 use native.Mathlib.Omega.{arith}
 use Rattle.call.specs.Contents.{Found, nothing, at}
-use Rattle.contents.specs.Faults.{faultNumber, indexOr}
-use Rattle.session_file.specs.Below.{numberBelow, anyBelow, leastFrom}
-use Rattle.session_file.proofs.Below.{one-most, none→each, least-none→each}
-
--- ---- how many pass
-
--- a fault counts 1
-pub number-cond : (b : Bool) → faultNumber b ≡ cond b 1 0
-number-cond true = refl
-number-cond false = refl
+use Rattle.contents.specs.Faults.{indexOr}
+use Rattle.session_file.specs.Below.{anyBelow, leastFrom}
+use Rattle.session_file.proofs.Below.{none→each, least-none→each}
 
 module _ (test : ℕ → Bool) where
-  pub number-most : (n : ℕ) → numberBelow test n ≤ n
-  unfolding numberBelow
-  number-most zero = omega arith
-  number-most (suc n) = omega (arith, number-most n, one-most (test n))
-
   -- one below the bound passes
   pub any-some : (n k : ℕ) → k < n → test k ≡ true → anyBelow test n ≡ true
   any-some n k h e = by (anyBelow test n) refl

@@ -9,12 +9,14 @@ use lib.Arith.{digits-lt}
 use lib.Dec.{T, ltb}
 use lib.ListN.{length, getD, take, drop, length-append}
 use lib.Ieee.{Float, nan, isNan}
+use Rattle.session_file.proofs.Caches.{row-inside, length-row}
+use Rattle.bool_laws.specs.Counts.{countWhere}
 use Rattle.tensor_laws.proofs.Parts.{length-part, row-end}
 use Rattle.call.specs.Contents.{elementFault}
 use Rattle.records.specs.Numbers.{rowBytes}
 use Rattle.records.proofs.Numbers.{length-rowBytes}
 use Rattle.session_file.specs.declared.Sizes.{Sizes}
-use Rattle.session_file.specs.Below.{numberBelow, joined}
+use Rattle.session_file.specs.Below.{joined}
 use Rattle.session_file.specs.Sizes.{sizesHold, rowsOf, pairLength, recordLength}
 use Rattle.session_file.specs.Form.{sessionOf, cacheRow, pairBytes, positionBytes}
 use Rattle.session_file.specs.Writer.{rowFault, rowsFault}
@@ -30,10 +32,6 @@ use Rattle.session_writer.proofs.Counts.{any-some}
 pub fit→facts : {z : Sizes} {n keys values : ℕ} → CachesFit z n keys values → SizesFacts z
 fit→facts {z} fit = sizes→facts z (fit .limits)
 
--- row r of position p ends inside
-row-inside : (rows n size p r : ℕ) → p < n → r < rows → (r * n + p) * size + size ≤ rows * n * size
-row-inside rows n size p r h l = row-end size (r * n + p) (rows * n) (digits-lt l h)
-
 module _ (z : Sizes) (n : ℕ) (keys values : List Float) (fit : CachesFit z n (length keys) (length values)) (p r : ℕ) (h : p < n) (l : r < rowsOf z) where
   pub key-fits : CacheRowFits n (z .size) (length keys) p r
   key-fits =
@@ -43,7 +41,7 @@ module _ (z : Sizes) (n : ℕ) (keys values : List Float) (fit : CachesFit z n (
         columns = f .size .1;
         row = omega (arith, f .rows .1);
         position = h;
-        inside = omega (arith, row-inside (rowsOf z) n (z .size) p r h l, fit .keys-length);
+        inside = row-inside (rowsOf z) n (z .size) keys (fit .keys-length) p r h l;
       }
 
   pub value-fits : CacheRowFits n (z .vsize) (length values) p r
@@ -54,14 +52,14 @@ module _ (z : Sizes) (n : ℕ) (keys values : List Float) (fit : CachesFit z n (
         columns = f .vsize .1;
         row = omega (arith, f .rows .1);
         position = h;
-        inside = omega (arith, row-inside (rowsOf z) n (z .vsize) p r h l, fit .values-length);
+        inside = row-inside (rowsOf z) n (z .vsize) values (fit .values-length) p r h l;
       }
 
   pub length-key : length (cacheRow n (z .size) keys p r) ≡ z .size
-  length-key = length-part ((r * n + p) * z .size) (z .size) keys (key-fits .inside)
+  length-key = length-row (rowsOf z) n (z .size) keys (fit .keys-length) p r h l
 
   pub length-value : length (cacheRow n (z .vsize) values p r) ≡ z .vsize
-  length-value = length-part ((r * n + p) * z .vsize) (z .vsize) values (value-fits .inside)
+  length-value = length-row (rowsOf z) n (z .vsize) values (fit .values-length) p r h l
 
   pub length-pairBytes : length (pairBytes (sessionOf z n keys values) p r) ≡ pairLength z
   unfolding pairBytes
@@ -88,7 +86,7 @@ unfolding rowFault
 row-numbers row e k h = sound→number (getD row k nan) (none→each (λ j. elementFault (getD row j nan)) (length row) e k h)
 
 -- a row by the number of its faults
-module _ (row given : List Float) (m : ℕ) (e : given ≡ row) (f : m ≡ numberBelow (λ k. elementFault (getD given k nan)) (length given)) where
+module _ (row given : List Float) (m : ℕ) (e : given ≡ row) (f : m ≡ countWhere (length given) (λ k. elementFault (getD given k nan))) where
   fault-is : ltb 0 m ≡ rowFault row
   unfolding rowFault
   fault-is = ap (ltb 0) f ∙ ap rowFault e

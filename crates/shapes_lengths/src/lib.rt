@@ -1,7 +1,8 @@
 // Refusals 5 and 6: the lengths of the lent tensors.
 ghost use mathlib.Core.Path.{_≡_};
 ghost use mathlib.Core.Bool.{true};
-ghost use Rattle.call.specs.Tensors.{Outputs, inputsOf};
+ghost use Rattle.call.specs.Tensors.{Outputs};
+ghost use Rattle.call.specs.Lent.{inputsGiven};
 ghost use Rattle.call.specs.Limits.{limitsHold, maskShapeHolds};
 ghost use Rattle.call.specs.Lengths.{inputsFit, outputsFit};
 ghost use Rattle.call.specs.Refusals.{lengthsVerdict};
@@ -23,7 +24,7 @@ fn inputs_fit(
 ) -> bool
     requires { ⌜ limitsHold call ≡ true ⌝ }
     requires { ⌜ maskShapeHolds call ≡ true ⌝ }
-    ensures { λ r. ⌜ r ≡ inputsFit call (inputsOf (now (query .entry)) (now (key .entry)) (now (value .entry)) (now (boolmask .entry)) (now (floatmask .entry)) (now (pastkey .entry)) (now (pastvalue .entry)) (now (live .entry))) ⌝ }
+    ensures { λ r. ⌜ r ≡ inputsFit call (inputsGiven query key value boolmask floatmask pastkey pastvalue live) ⌝ }
 {
     if query.len() != shapes_sizes::product(call.batches, call.qheads, call.qlen, call.size) {
         return false;
@@ -100,7 +101,7 @@ pub fn lengths_verdict(
 ) -> Verdict
     requires { ⌜ limitsHold call ≡ true ⌝ }
     requires { ⌜ maskShapeHolds call ≡ true ⌝ }
-    ensures { λ r. ⌜ ((y : Outputs) → WrittenLengths y output presentkey presentvalue scores work → r ≡ lengthsVerdict call (inputsOf (now (query .entry)) (now (key .entry)) (now (value .entry)) (now (boolmask .entry)) (now (floatmask .entry)) (now (pastkey .entry)) (now (pastvalue .entry)) (now (live .entry))) y) ⌝ }
+    ensures { λ r. ⌜ ((y : Outputs) → WrittenLengths y output presentkey presentvalue scores work → r ≡ lengthsVerdict call (inputsGiven query key value boolmask floatmask pastkey pastvalue live) y) ⌝ }
 {
     if !inputs_fit(
         call,

@@ -3,12 +3,10 @@ use mathlib.Core.Path.{_≡_, refl}
 use mathlib.Core.Bool.{true, false}
 use lib.IntN.{pos, negsuc}
 use lib.Ieee.{Float, inf, fin, binary32, neg, ofBits}
+use Rattle.float_laws.specs.Zero.{minusZero}
 use Rattle.exponential.specs.ExpNeg.{plusZero, one}
 use Rattle.softmax.specs.Lists.{hidden}
 use Rattle.softmax.specs.Cap.{twiceOf, ratioOf, tanhOf, cappedOf, cappedWhere, cappedOrHidden}
-
-abbrev minusZero : Float
-minusZero = fin true 0 (pos 0)
 
 -- 2 ^ -149 and 2 ^ -30
 abbrev least : Float

@@ -8,6 +8,7 @@ use lib.Dec.{T}
 use lib.ListN.{length}
 use lib.Ieee.{Float, nan, inf, fin, lt}
 use lib.Ieee.Scale.{finite}
+use mir.Facts.{and-yes}
 use Rattle.softmax.specs.Row.{Largest, noneSeen, largest, greater, largestWith}
 use Rattle.softmax.specs.Lists.{elementOf, isHidden, isScoreRow, scoreOrHidden}
 
@@ -15,16 +16,12 @@ use Rattle.softmax.specs.Lists.{elementOf, isHidden, isScoreRow, scoreOr
 abbrev pub isScore : Float → Bool
 isScore x = finite x || isHidden x
 
-both : (a b : Bool) → T (a && b) → T a × T b
-both true b t = (tt, t)
-both false b t = absurd t
-
 -- an element of a row of scores
 pub score-at : (row : List Float) → T (isScoreRow row) → (i : ℕ) → i < length row → T (isScore (elementOf row i))
 unfolding isScoreRow
 score-at [] t i h = absurd (not-suc-le-zero h)
-score-at (x ∷ row) t zero h = both (isScore x) (isScoreRow row) t .0
-score-at (x ∷ row) t (suc i) h = score-at row (both (isScore x) (isScoreRow row) t .1) i (le-of-suc-le-suc h)
+score-at (x ∷ row) t zero h = and-yes (isScore x) (isScoreRow row) t .0
+score-at (x ∷ row) t (suc i) h = score-at row (and-yes (isScore x) (isScoreRow row) t .1) i (le-of-suc-le-suc h)
 
 -- the largest score, where there is one, is finite
 abbrev pub isFiniteOrNone : Largest → Bool

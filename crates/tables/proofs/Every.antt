@@ -25,14 +25,6 @@ from test (x ∷ xs) i t (suc k) h =
 pub at : (test : ℕ → ℕ → Bool) (xs : List ℕ) → T (every test 0 xs) → (k : ℕ) → k < length xs → T (test k (getD xs k 0))
 at test xs t k h = subst (λ (m : ℕ). T (test m (getD xs k 0))) (zero-add k) (from test xs 0 t k h)
 
--- ---- the parts of a test
-
-pub three : (a b c : Bool) → T (a && b && c) → T a × T b × T c
-three true true true t = (tt, tt, tt)
-
-pub four : (a b c d : Bool) → T (a && b && c && d) → T a × T b × T c × T d
-four true true true true t = (tt, tt, tt, tt)
-
 -- x is m / c
 abbrev pub isFraction : Float → ℕ → ℕ → Bool
 isFraction nan m c = false

@@ -8,8 +8,9 @@ use lib.Dec.{T, leb, ltb, leb→le, ltb→lt}
 use lib.ListN.{getD}
 use lib.Ieee.{binary32, ofBits, nanBits}
 use lib.Ieee.Exact.{HasValue}
+use Rattle.bool_laws.proofs.Tests.{three, four}
 use Rattle.tables.specs.Power.{PowerRule, powerBits, powerOf}
-use Rattle.tables.proofs.Every.{every, at, isFraction, fraction→value, three, four}
+use Rattle.tables.proofs.Every.{every, at, isFraction, fraction→value}
 
 -- ---- the test
 

@@ -14,10 +14,11 @@ use lib.Ieee.{Float, fin, binary32, ofBits, nanBits, lt, le}
 use lib.Ieee.Exact.{HasValue}
 use lib.Ieee.Fits.{and-i, and-l, and-r}
 use lib.Ieee.Bits.{is-true, is-false}
-use Rattle.tables.specs.declared.DefaultScale.the-variants.{Scale, NoScale}
+use Rattle.bool_laws.proofs.Tests.{three, four}
+use Rattle.tables.specs.declared.DefaultScale.the-variants.{ScaleIs, NoScale}
 use Rattle.float_laws.specs.Zero.{plusZero}
 use Rattle.tables.specs.Scale.{ScaleRule, scaleBits, defaultScaleOf}
-use Rattle.tables.proofs.Every.{every, at, isFraction, fraction→value, three, four}
+use Rattle.tables.proofs.Every.{every, at, isFraction, fraction→value}
 
 -- ---- the test: the bits of a scale stand for m * 2 ^ -x
 
@@ -126,16 +127,16 @@ scale-only D m x n y a b p q =
 
 -- ---- where there is a scale, and where there is none
 
-pub scale-where : (D : ℕ) → 1 ≤ D → D ≤ 256 → defaultScaleOf D ≡ Scale (ofBits binary32 (getD scaleBits (D - 1) 0))
+pub scale-where : (D : ℕ) → 1 ≤ D → D ≤ 256 → defaultScaleOf D ≡ ScaleIs (ofBits binary32 (getD scaleBits (D - 1) 0))
 unfolding defaultScaleOf
 scale-where D a b =
-    ap (λ (t : Bool). cond t (Scale (ofBits binary32 (getD scaleBits (D - 1) 0))) NoScale)
+    ap (λ (t : Bool). cond t (ScaleIs (ofBits binary32 (getD scaleBits (D - 1) 0))) NoScale)
     (is-true (leb 1 D && leb D 256) (and-i (leb 1 D) (leb D 256) (le→leb 1 D a) (le→leb D 256 b)))
 
 pub no-scale-where : (D : ℕ) → (D < 1) ⊎ (256 < D) → defaultScaleOf D ≡ NoScale
 unfolding defaultScaleOf
 no-scale-where D h =
-    ap (λ (t : Bool). cond t (Scale (ofBits binary32 (getD scaleBits (D - 1) 0))) NoScale)
+    ap (λ (t : Bool). cond t (ScaleIs (ofBits binary32 (getD scaleBits (D - 1) 0))) NoScale)
     (is-false (leb 1 D && leb D 256) (not-T (leb 1 D && leb D 256) (λ t. outside h (leb→le 1 D (and-l (leb 1 D) (leb D 256) t)) (leb→le D 256 (and-r (leb 1 D) (leb D 256) t)))))
   where
     outside : (D < 1) ⊎ (256 < D) → 1 ≤ D → D ≤ 256 → ⊥
@@ -143,7 +144,7 @@ no-scale-where D h =
     outside (inr h) a b = omega arith
 
 -- the default scale of a head size from 1 to 256 is m * 2 ^ -x, with the m and the x of the rule
-pub default-scale : (D : ℕ) → 1 ≤ D → D ≤ 256 → (s : Float) × (m : ℕ) × (x : ℕ) × (defaultScaleOf D ≡ Scale s) × HasValue s false m (2 ^ x) × ScaleRule D m x
+pub default-scale : (D : ℕ) → 1 ≤ D → D ≤ 256 → (s : Float) × (m : ℕ) × (x : ℕ) × (defaultScaleOf D ≡ ScaleIs s) × HasValue s false m (2 ^ x) × ScaleRule D m x
 default-scale D a b =
     let i = D - 1 in
     let r = scale-rule i (before D a b) in
@@ -168,7 +169,7 @@ unfolding between scaleBits ofBits lt le
 all-between = tt
 
 -- the default scale of a head size from 1 to 256 is above 0 and at most 1
-pub default-scale-bounds : (D : ℕ) → 1 ≤ D → D ≤ 256 → (s : Float) × (defaultScaleOf D ≡ Scale s) × T (lt plusZero s) × T (le s one)
+pub default-scale-bounds : (D : ℕ) → 1 ≤ D → D ≤ 256 → (s : Float) × (defaultScaleOf D ≡ ScaleIs s) × T (lt plusZero s) × T (le s one)
 unfolding between
 default-scale-bounds D a b =
     let s = ofBits binary32 (getD scaleBits (D - 1) 0) in

@@ -7,7 +7,7 @@ use lib.Dec.{leb}
 use lib.ListN.{getD}
 use lib.Ieee.{binary32, ofBits}
 use Rattle.tables.specs.declared.DefaultScale.{DefaultScale}
-use Rattle.tables.specs.declared.DefaultScale.the-variants.{Scale, NoScale}
+use Rattle.tables.specs.declared.DefaultScale.the-variants.{ScaleIs, NoScale}
 
 -- m * 2 ^ -x is the f32 nearest to 1 / √D: m is whole, from 2 ^ 23 to below 2 ^ 24, and (2m - 1)² * D < 2 ^ (2x + 2) < (2m + 1)² * D
 pub record ScaleRule (D m x : ℕ) : Type 0 where
@@ -53,4 +53,4 @@ scaleBits =
 
 unfoldable pub defaultScaleOf : ℕ → DefaultScale
 unfolding scaleBits
-defaultScaleOf D = cond (leb 1 D && leb D 256) (Scale (ofBits binary32 (getD scaleBits (D - 1) 0))) NoScale
+defaultScaleOf D = cond (leb 1 D && leb D 256) (ScaleIs (ofBits binary32 (getD scaleBits (D - 1) 0))) NoScale

@@ -8,7 +8,7 @@ ghost use Rattle.tables.specs.Scale.{defaultScaleOf};
 
 // The default scale of a head size from 1 to 256, and none of any other.
 pub enum DefaultScale {
-    Scale(f32),
+    ScaleIs(f32),
     NoScale,
 }
 
@@ -39,5 +39,5 @@ pub fn default_scale(head_size: usize) -> DefaultScale
         return DefaultScale::NoScale;
     }
     let scales = table::SCALES;
-    DefaultScale::Scale(f32::from_bits(scales[head_size - 1]))
+    DefaultScale::ScaleIs(f32::from_bits(scales[head_size - 1]))
 }

@@ -2,9 +2,11 @@
 use mathlib.Core.Path.{_≡_, refl, sym, ap, _∙_}
 use mathlib.Core.List.{List, [], _∷_, _++_, map}
 use Prim.Native.Nat.{ℕ, zero, suc, _+_, _≤_, _<_}
-use native.Mathlib.Nat.{le-of-suc-le-suc, not-suc-le-zero}
+use native.Mathlib.Nat.{le-of-suc-le-suc, not-suc-le-zero, zero-add, suc-add}
 use native.Mathlib.Numerals.{add-one}
 use lib.ListN.{length, getD, take, drop, set, replicate}
+use native.Mathlib.Omega.{arith}
+use Rattle.tensor_laws.proofs.Parts.{withPart}
 use Rattle.tensor_laws.specs.Layout.{tabulate}
 
 -- the first i elements mapped, the others as they were
@@ -81,3 +83,14 @@ module _ {A : Type 0} where
 pub map-same : {A B : Type 0} (y : B) (l : List A) → map (λ x. y) l ≡ replicate (length l) y
 map-same y [] = refl
 map-same {B = B} y (x ∷ l) = ap (λ (r : List B). y ∷ r) (map-same y l)
+
+-- ---- a row that is mapped in place, one block after the other
+
+-- with the block of k elements from i on mapped too
+pub mapped-block : {A : Type 0} (g : A → A) (i k : ℕ) (l : List A) → i + k ≤ length l
+    → withPart i k (mappedTo g i l) (map g (take k (drop i (mappedTo g i l)))) ≡ mappedTo g (i + k) l
+mapped-block g zero k l h = ap (λ (n : ℕ). mappedTo g n l) (sym (zero-add k))
+mapped-block g (suc i) k [] h = absurd (omega arith)
+mapped-block {A} g (suc i) k (x ∷ l) h =
+    ap (λ (r : List A). g x ∷ r) (mapped-block g i k l (omega (arith, suc-add i k)))
+    ∙ ap (λ (n : ℕ). mappedTo g n (x ∷ l)) (sym (suc-add i k))

@@ -6,9 +6,10 @@ use borrow.Author.Needs.{needs}
 use lib.ListN.{take, getD}
 use lib.Seq.{take-all}
 use lib.Ieee.{nan}
+use Rattle.bool_laws.proofs.Counts.{tally-le}
 use Rattle.call.specs.Contents.{elementFault}
 use Rattle.contents.specs.Faults.{faultCount}
-use Rattle.contents.proofs.Faults.{number-most, count-next}
+use Rattle.contents.proofs.Faults.{count-next}
 use Rattle.contents_elements.proofs.block_faults.Statement.{statement}
 use Rattle.contents_elements.proofs.block_faults.Tie as tie
 
@@ -36,7 +37,7 @@ at-most-one : (c : tie.After-fault-number Inv-loop μ-loop) → c .fault-number 
 at-most-one c =
     let a = c .before .before .before in
     let e = c .fault-number .ensures in
-    let n = number-most (elementFault (getD (a .before .before .args .block .now) (a .loop .i) nan)) in
+    let n = tally-le (elementFault (getD (a .before .before .args .block .now) (a .loop .i) nan)) in
     omega arith
 
 add-faults : tie.Need-add-faults Inv-loop μ-loop

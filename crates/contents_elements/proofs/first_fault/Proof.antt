@@ -7,9 +7,9 @@ use borrow.Author.Needs.{needs}
 use borrow.Author.Count.{below-none, below-more}
 use lib.ListN.{length, getD}
 use lib.Ieee.{nan}
+use Rattle.bool_laws.proofs.Counts.{tally-some, tally-none}
 use Rattle.call.specs.Contents.{elementFault}
 use Rattle.call.proofs.Clear.{clear→tensor, first→tensor}
-use Rattle.contents.proofs.Faults.{number-some, number-none}
 use Rattle.contents_elements.proofs.first_fault.Statement.{statement}
 use Rattle.contents_elements.proofs.first_fault.Tie as tie
 
@@ -34,7 +34,7 @@ fault-number-requires c κs = search needs
 returns : tie.Need-returns Inv-loop μ-loop
 returns c =
     let a = c .before .before .before .before in
-    rw (first→tensor (a .before .before .args .tensor .now) (a .loop .i) (c .before .before .before .loop-test .taken) (number-some _ (λ z. c .if1 .taken (c .before .fault-number .ensures ∙ z))) (a .loop .inv .1))
+    rw (first→tensor (a .before .before .args .tensor .now) (a .loop .i) (c .before .before .before .loop-test .taken) (tally-some _ (λ z. c .if1 .taken (c .before .fault-number .ensures ∙ z))) (a .loop .inv .1))
 
 add-i : tie.Need-add-i Inv-loop μ-loop
 add-i c = omega arith
@@ -45,7 +45,7 @@ loop-less c = omega arith
 loop-again : tie.Need-loop-again Inv-loop μ-loop
 loop-again c =
     let a = c .before .before .before .before in
-    (omega arith, below-more _ _ (a .loop .inv .1) (number-none _ (sym (c .before .fault-number .ensures) ∙ c .if1 .left)))
+    (omega arith, below-more _ _ (a .loop .inv .1) (tally-none _ (sym (c .before .fault-number .ensures) ∙ c .if1 .left)))
 
 returns-2 : tie.Need-returns-2 Inv-loop μ-loop
 returns-2 c =

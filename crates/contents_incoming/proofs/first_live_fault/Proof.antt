@@ -1,6 +1,6 @@
 -- `contents_incoming::first_live_fault` meets its contract. The loop's invariant: before the group nothing is both looked at and at fault. Assumes nothing.
 use mathlib.Core.Path.{_≡_, sym, ap, _∙_, subst}
-use mathlib.Core.Bool.{false, _&&_}
+use mathlib.Core.Bool.{false, _&&_, and-false}
 use mathlib.Core.List.{List}
 use Prim.Native.Nat.{ℕ, _+_, _*_, _/_, _-_, _≤_, _<_}
 use native.Mathlib.Nat.{mul-comm, mul-pos, mul-le-mul-right, le-mul-of-pos-right, div-lt-iff-lt-mul}
@@ -15,7 +15,7 @@ use Rattle.call.proofs.Clear.{tensor→clear}
 use Rattle.call.proofs.Facts.{limits→facts}
 use Rattle.contents.specs.Faults.{inPrefix}
 use Rattle.contents.proofs.Parts.{index-found, index-none, part, below-both, length-part, part-clear, part-first}
-use Rattle.contents.proofs.Groups.{and-false, in-prefix, group-clear, next-group, group-inside, clear→prefix, first→prefix}
+use Rattle.contents.proofs.Groups.{in-prefix, group-clear, next-group, group-inside, clear→prefix, first→prefix}
 use Rattle.contents_incoming.proofs.first_live_fault.Statement.{statement}
 use Rattle.contents_incoming.proofs.first_live_fault.Tie as tie
 

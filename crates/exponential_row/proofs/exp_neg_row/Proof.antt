@@ -7,12 +7,11 @@ use borrow.Author.Needs.{needs}
 use borrow.Rule.Slice.PartMut.{putMid}
 use lib.ListN.{length, take, drop}
 use lib.Ieee.{Float, binary32, sub}
-use Rattle.tensor_laws.proofs.InPlace.{mappedTo, length-mappedTo, mapped-all}
+use Rattle.tensor_laws.proofs.InPlace.{mappedTo, length-mappedTo, mapped-all, mapped-block}
 use Rattle.tensor_laws.proofs.Parts.{withPart, length-part as length-middle}
 use Rattle.tensor_laws.proofs.Tails.{partOf, length-part}
 use Rattle.tables.specs.Power.{powerBits}
 use Rattle.exponential.specs.ExpNeg.{expNegOf, expNegRowOf, valueOrZero}
-use Rattle.exponential.proofs.Blocks.{mapped-block}
 use Rattle.exponential.proofs.Laws.{length-row}
 use Rattle.exponential_row.proofs.exp_neg_row.Statement.{statement}
 use Rattle.exponential_row.proofs.exp_neg_row.Tie as tie

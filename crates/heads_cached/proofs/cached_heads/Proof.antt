@@ -4,6 +4,7 @@ use Prim.Native.Nat.{ℕ, _+_, _-_, _*_, _/_, _≤_, _<_}
 use native.Mathlib.Nat.{mod-lt, div-lt-iff-lt-mul, mul-le-mul, zero-mul}
 use native.Mathlib.Omega.{arith}
 use lib.ListN.{length}
+use Rattle.bool_laws.proofs.Counts.{count-le}
 use Rattle.tensor_laws.specs.Layout.{tensorOf}
 use Rattle.call.specs.declared.Form.{Form}
 use Rattle.call.specs.Limits.{totalOf}
@@ -12,7 +13,6 @@ use Rattle.call.specs.Tensors.{Inputs, inputsOf}
 use Rattle.call.proofs.Facts.{InLimits}
 use Rattle.attention.specs.Elements.{positionCell}
 use Rattle.attention.specs.Outcomes.{presentKeyTensor, presentValueTensor, whereCached}
-use Rattle.attention.proofs.Counting.{count-le}
 use Rattle.rows.proofs.Ready.{accepts, limits, lengths}
 use Rattle.caches.proofs.Lengths.{past-length}
 use Rattle.heads.specs.Heads.{maskedNumber, HeadsTo}

@@ -4,12 +4,12 @@ use Prim.Native.Nat.{ℕ, _+_, _-_, _*_, _/_, _%_, _≤_, _<_}
 use native.Mathlib.Nat.{mod-lt, div-lt-iff-lt-mul, mul-le-mul, add-assoc, add-zero}
 use native.Mathlib.Omega.{arith}
 use lib.ListN.{length}
+use Rattle.bool_laws.proofs.Counts.{count-le}
 use Rattle.call.specs.Limits.{totalOf}
 use Rattle.call.specs.Lengths.{outputLength, scoresLength}
 use Rattle.call.specs.Tensors.{Inputs, inputsOf}
 use Rattle.call.proofs.Facts.{InLimits}
 use Rattle.attention.specs.Formula.{rowMasked}
-use Rattle.attention.proofs.Counting.{count-le}
 use Rattle.rows.proofs.Ready.{limits}
 use Rattle.heads.specs.Heads.{HeadsTo, HeadsCarried}
 use Rattle.heads.proofs.Heads.{head-more, unit-output-long, unit-scores-long, unit-work-long}

@@ -3,7 +3,7 @@ use mathlib.Core.Path.{_≡_, sym, _∙_}
 use lib.Ieee.{ofBits}
 use borrow.Author.Needs.{needs}
 use Rattle.tables.specs.Scale.{defaultScaleOf}
-use Rattle.tables.specs.declared.DefaultScale.the-variants.{Scale, NoScale}
+use Rattle.tables.specs.declared.DefaultScale.the-variants.{ScaleIs, NoScale}
 use Rattle.klaverdomp.proofs.klaverdomp_default_scale_1.Statement.{statement}
 use Rattle.klaverdomp.proofs.klaverdomp_default_scale_1.Tie as tie
 
@@ -21,7 +21,7 @@ unfolding ofBits
 returns c =
     let x = c .before in
     let s = x .before .before in
-    let is : defaultScaleOf (s .before .args .size) ≡ Scale (x .x .given .0 .0) = sym (s .default-scale .ensures) ∙ x .x .given .1 in
+    let is : defaultScaleOf (s .before .args .size) ≡ ScaleIs (x .x .given .0 .0) = sym (s .default-scale .ensures) ∙ x .x .given .1 in
     rw is
 
 returns-2 : tie.Need-returns-2

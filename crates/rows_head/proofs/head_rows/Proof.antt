@@ -6,6 +6,7 @@ use native.Mathlib.Omega.{arith}
 use borrow.Author.Needs.{needs}
 use lib.ListN.{length, take, drop}
 use lib.Ieee.{Float}
+use Rattle.bool_laws.proofs.Counts.{count-le, tally-le}
 use Rattle.tensor_laws.specs.Layout.{slot}
 use Rattle.tensor_laws.proofs.Parts.{withPart, length-part}
 use Rattle.tensor_laws.proofs.Written.{row-inside}
@@ -13,7 +14,6 @@ use Rattle.call.specs.Limits.{totalOf}
 use Rattle.call.specs.Lengths.{outputLength, inScores}
 use Rattle.call.specs.Tensors.{Inputs, inputsOf}
 use Rattle.attention.specs.Formula.{rowMasked}
-use Rattle.attention.proofs.Counting.{count-le, tally-le}
 use Rattle.rows.specs.Unit.{Accepting}
 use Rattle.rows.proofs.Ready.{limits, query-row-fits}
 use Rattle.rows.proofs.UnitRows.{shown-most, Done, begun, row-more, finished, output-kept, scores-kept, scores-by-rows}

@@ -5,7 +5,7 @@ use Rattle.rows_numbers.proofs.effective_scale.Tie as tie
 use mathlib.Core.Path.{_≡_, sym, _∙_}
 use lib.Ieee.{ofBits}
 use Rattle.tables.specs.Scale.{defaultScaleOf}
-use Rattle.tables.specs.declared.DefaultScale.the-variants.{Scale, NoScale}
+use Rattle.tables.specs.declared.DefaultScale.the-variants.{ScaleIs, NoScale}
 use Rattle.attention.specs.Formula.{effectiveScale}
 
 enum-known-scale : tie.Need-enum-known-scale
@@ -32,7 +32,7 @@ unfolding effectiveScale
 returns-2 c =
     let d = c .before in
     let s = d .before .before in
-    let is : defaultScaleOf (s .before .before .before .args .call .size) ≡ Scale (d .default .given .0 .0) = sym (s .default-scale .ensures) ∙ d .default .given .1 in
+    let is : defaultScaleOf (s .before .before .before .args .call .size) ≡ ScaleIs (d .default .given .0 .0) = sym (s .default-scale .ensures) ∙ d .default .given .1 in
     rw (s .before .enum-told .given .1, is)
 
 returns-3 : tie.Need-returns-3

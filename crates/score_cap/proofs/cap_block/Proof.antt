@@ -7,8 +7,8 @@ use borrow.Author.Needs.{needs}
 use lib.ListN.{length, take, drop, replicate, length-append}
 use lib.Seq.{take-at, length-take-le}
 use lib.Ieee.{Float, binary32, neg, ofBits}
+use Rattle.float_laws.specs.Zero.{minusZero}
 use Rattle.exponential.specs.ExpNeg.{expNegRowOf}
-use Rattle.exponential.proofs.Whole.{minusZero}
 use Rattle.score_cap.proofs.Blocks.{quotientsOf, termsOf, exponentialsOf, length-quotients, length-terms, length-exponentials, all-steps}
 use Rattle.score_cap.proofs.cap_block.Statement.{statement}
 use Rattle.score_cap.proofs.cap_block.Tie as tie

@@ -7,10 +7,9 @@ use borrow.Author.Needs.{needs}
 use borrow.Rule.Slice.PartMut.{putMid}
 use lib.ListN.{length, take, drop}
 use lib.Ieee.{Float}
-use Rattle.tensor_laws.proofs.InPlace.{mappedTo, length-mappedTo, mapped-all}
+use Rattle.tensor_laws.proofs.InPlace.{mappedTo, length-mappedTo, mapped-all, mapped-block}
 use Rattle.tensor_laws.proofs.Parts.{withPart, length-part as length-middle}
 use Rattle.tensor_laws.proofs.Tails.{partOf, length-part}
-use Rattle.exponential.proofs.Blocks.{mapped-block}
 use Rattle.softmax.specs.Cap.{cappedOrHidden, cappedRowOf}
 use Rattle.softmax.proofs.Cap.{length-capped}
 use Rattle.score_cap.proofs.cap_blocks.Statement.{statement}

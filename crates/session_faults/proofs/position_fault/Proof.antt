@@ -4,8 +4,8 @@ use Prim.Native.Nat.{ℕ, _+_, _*_, _-_}
 use native.Mathlib.Omega.{arith}
 use borrow.Author.Needs.{needs}
 use lib.Dec.{ltb}
+use Rattle.bool_laws.specs.Counts.{countWhere}
 use Rattle.tensor_laws.proofs.Parts.{length-part}
-use Rattle.session_file.specs.Below.{numberBelow}
 use Rattle.session_file.specs.Sizes.{rowsOf}
 use Rattle.session_file.specs.Reader.{payloadFault, positionFault}
 use Rattle.session_file.proofs.Limits.{sizes→facts}
@@ -57,7 +57,7 @@ returns c =
     ap (ltb 0)
     (c .payload-faults .ensures
     ∙ part-number from (from + a .payload-length .result - from) count (s .args .file .now) (omega (arith, s .pre)) (omega arith)
-    ∙ ap (λ (n : ℕ). numberBelow (payloadFault (s .args .file .now) (n + 6)) count) e)
+    ∙ ap (λ (n : ℕ). countWhere count (payloadFault (s .args .file .now) (n + 6))) e)
 
 pub position-fault-spec : {M : Type 1} → statement M
 position-fault-spec =

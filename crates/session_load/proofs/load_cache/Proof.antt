@@ -8,13 +8,13 @@ use lib.Ieee.{Float, nan}
 use Rattle.tensor_laws.proofs.Parts.{withPart}
 use Rattle.records.specs.Numbers.{f32At, rowAt}
 use Rattle.session_file.specs.Sizes.{rowsOf}
-use Rattle.session_file.specs.Reader.{cacheAt}
+use Rattle.session_file.specs.Reader.{cacheAt, fileCell}
 use Rattle.session_file.proofs.Limits.{sizes→facts}
 use Rattle.session_reader.proofs.Rows.{pattern-sound, length-row, row-read}
 use Rattle.session_reader.proofs.Loads.{LoadedTo, loaded-none, loaded-next, loaded-all}
 use Rattle.session_load.proofs.load_cache.Statement.{statement}
 use Rattle.session_load.proofs.load_cache.Tie as tie
-use Rattle.session_load.proofs.load_cache.Proof.Turn.{cellOf, Inv-loop, μ-loop, facts-at, fromOf, toOf, begins, file-part, cache-part}
+use Rattle.session_load.proofs.load_cache.Proof.Turn.{Inv-loop, μ-loop, facts-at, fromOf, toOf, begins, file-part, cache-part}
 use Rattle.session_load.proofs.load_cache.Proof.Bounds.{mul-rows, add-pair, mul-pair, mul-all, div-p, rem-r, record-start-requires, add-from, mul-from, add-from-2, add-from-3, mul-to, add-to, mul-to-2, mul-read-row, add-read-row, sub-read-row, part-read-row-start, part-read-row-end, add-read-row-2, mul-read-row-2, sub-read-row-2, part-read-row-start-2, part-read-row-end-2, add-i}
 mod Turn
 mod Bounds
@@ -23,7 +23,7 @@ loop-holds : tie.Need-loop-holds Inv-loop μ-loop
 loop-holds c =
     let s = c .before .before .before .before in
     let a = s .args in
-    (omega arith, loaded-none (rowsOf (a .sizes)) (a .n) (a .size) (cellOf (a .sizes) (a .file .now) (a .behind)) (a .cache .now) (s .pre .1 .1 .1 .1 .1 .1))
+    (omega arith, loaded-none (rowsOf (a .sizes)) (a .n) (a .size) (fileCell (a .sizes) (a .file .now) (a .behind)) (a .cache .now) (s .pre .1 .1 .1 .1 .1 .1))
 
 read-row-requires : tie.Need-read-row-requires Inv-loop μ-loop
 read-row-requires c κs =
@@ -55,14 +55,14 @@ loop-again c =
     let long = from + a .size * 4 - from in
     let row = r .last .1 .0 in
     let e : row ≡ rowAt (take long (drop from (a .file .now))) 0 (a .size) = r .ensures ∙ ap (rowAt (take long (drop from (a .file .now))) 0) (cache-part p) in
-    let cells : (k : ℕ) → k < a .size → getD row k nan ≡ cellOf (a .sizes) (a .file .now) (a .behind) (l .i / rows) (l .i % rows) k =
+    let cells : (k : ℕ) → k < a .size → getD row k nan ≡ fileCell (a .sizes) (a .file .now) (a .behind) (l .i / rows) (l .i % rows) k =
     λ k h. ap (λ (t : List Float). getD t k nan) e
     ∙ row-read from long (a .size) k (a .file .now) nan (omega arith) h
     ∙ ap (λ (x : ℕ). f32At (a .file .now) (x + k * 4)) (begins p) in
     let whole : a .size ≡ toOf p + a .size - toOf p = omega arith in (
       omega arith,
-      subst (λ (m : ℕ). LoadedTo rows (a .n) (a .size) (cellOf (a .sizes) (a .file .now) (a .behind)) (withPart (toOf p) m (l .cache) row) (l .i + 1)) whole
-          (loaded-next rows (a .n) (a .size) (cellOf (a .sizes) (a .file .now) (a .behind)) (l .cache) (l .i) some (p .before .loop-test .taken) row (ap length e ∙ length-row (take long (drop from (a .file .now))) 0 (a .size)) (l .inv .1) cells),
+      subst (λ (m : ℕ). LoadedTo rows (a .n) (a .size) (fileCell (a .sizes) (a .file .now) (a .behind)) (withPart (toOf p) m (l .cache) row) (l .i + 1)) whole
+          (loaded-next rows (a .n) (a .size) (fileCell (a .sizes) (a .file .now) (a .behind)) (l .cache) (l .i) some (p .before .loop-test .taken) row (ap length e ∙ length-row (take long (drop from (a .file .now))) 0 (a .size)) (l .inv .1) cells),
     )
 
 same-length : tie.Need-same-length Inv-loop μ-loop
@@ -74,7 +74,7 @@ returns : tie.Need-returns Inv-loop μ-loop
 unfolding cacheAt
 returns c =
     let a = c .before .before .before .before .before .before .args in
-    loaded-all (rowsOf (a .sizes)) (a .n) (a .size) (cellOf (a .sizes) (a .file .now) (a .behind)) (c .before .loop .cache) (c .before .loop .i) (c .loop-test .left) (c .before .loop .inv .1)
+    loaded-all (rowsOf (a .sizes)) (a .n) (a .size) (fileCell (a .sizes) (a .file .now) (a .behind)) (c .before .loop .cache) (c .before .loop .i) (c .loop-test .left) (c .before .loop .inv .1)
 
 pub load-cache-spec : {M : Type 1} → statement M
 load-cache-spec =

@@ -4,7 +4,7 @@ use borrow.Author.Needs.{needs}
 use Rattle.session_file.specs.declared.Reading.the-variants.{NotRead}
 use Rattle.call.specs.declared.Refusal.the-variants.{Record}
 use Rattle.session_file.specs.Reader.{atMost}
-use Rattle.session_reader.proofs.Nexts.{walk-end}
+use Rattle.session_file.proofs.Nexts.{walk-end}
 use Rattle.session_walk.proofs.at_most.Statement.{statement}
 use Rattle.session_walk.proofs.at_most.Tie as tie
 

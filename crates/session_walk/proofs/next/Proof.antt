@@ -5,7 +5,7 @@ use borrow.Author.Needs.{needs}
 use Rattle.records.specs.Records.{headIs}
 use Rattle.session_file.specs.Sizes.{payloadLength, recordStart}
 use Rattle.session_file.proofs.Limits.{sizes→facts, record-start-most}
-use Rattle.session_reader.proofs.Nexts.{next-ended, next-wrong, next-cut, next-whole}
+use Rattle.session_file.proofs.Nexts.{next-ended, next-wrong, next-cut, next-whole}
 use Rattle.session_walk.proofs.next.Statement.{statement}
 use Rattle.session_walk.proofs.next.Tie as tie
 

@@ -10,7 +10,7 @@ use Rattle.session_file.specs.declared.Reading.the-variants.{NotRead}
 use Rattle.call.specs.declared.Refusal.the-variants.{Record}
 use Rattle.session_file.specs.Reader.{positionFault, onward, walkFrom}
 use Rattle.session_file.proofs.Walks.{whole→record}
-use Rattle.session_reader.proofs.Nexts.{walk-on}
+use Rattle.session_file.proofs.Nexts.{walk-on}
 use Rattle.session_walk.proofs.walk.Statement.{statement}
 use Rattle.session_walk.proofs.walk.Tie as tie
 

@@ -5,6 +5,7 @@ use native.Mathlib.Omega.{arith}
 use mathlib.Core.List.{List}
 use lib.ListN.{length, take, drop}
 use lib.Ieee.{Float}
+use Rattle.session_file.specs.Reader.{fileCell}
 use Rattle.tensor_laws.proofs.Parts.{length-part}
 use Rattle.records.specs.Numbers.{f32At}
 use Rattle.session_file.specs.declared.Sizes.{Sizes}
@@ -14,13 +15,9 @@ use Rattle.session_reader.proofs.Rows.{rowFrom, RowFacts, row-facts}
 use Rattle.session_reader.proofs.Loads.{LoadedTo}
 use Rattle.session_load.proofs.load_cache.Tie as tie
 
--- element k of row r of position q
-abbrev pub cellOf : Sizes → List ℕ → (behind q r k : ℕ) → Float
-cellOf z file behind q r k = f32At file (rowFrom z behind q r + k * 4)
-
 abbrev pub Inv-loop : tie.InvT-loop
 Inv-loop file sizes n behind size cache₀ rows pair all i₀ cache i =
-    (i ≤ rowsOf sizes * n) × LoadedTo (rowsOf sizes) n size (cellOf sizes file behind) cache i
+    (i ≤ rowsOf sizes * n) × LoadedTo (rowsOf sizes) n size (fileCell sizes file behind) cache i
 
 abbrev pub μ-loop : tie.MeasureT-loop
 μ-loop file sizes n behind size cache₀ rows pair all i₀ cache i = rowsOf sizes * n - i

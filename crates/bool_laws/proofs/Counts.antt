@@ -6,7 +6,7 @@ use native.Mathlib.Nat.{le-refl, add-zero, add-suc, add-assoc}
 use native.Mathlib.Numerals.{add-one}
 use native.Mathlib.Omega.{arith}
 use lib.Dec.{lit≤}
-use Rattle.attention.specs.Outcomes.{tally, countWhere}
+use Rattle.bool_laws.specs.Counts.{tally, countWhere}
 
 -- none of no numbers
 pub count-start : (test : ℕ → Bool) → countWhere 0 test ≡ 0
@@ -33,6 +33,14 @@ unfolding countWhere
 count-agree zero test test' e = refl
 count-agree (suc n) test test' e = (λ i. count-agree n test test' (λ k l. e k (omega arith)) i + tally (e n (le-refl (suc n)) i))
 
+pub tally-some : (b : Bool) → (tally b ≡ 0 → ⊥) → b ≡ true
+tally-some true h = refl
+tally-some false h = absurd (h refl)
+
+pub tally-none : (b : Bool) → tally b ≡ 0 → b ≡ false
+tally-none true h = absurd (omega arith)
+tally-none false h = refl
+
 pub tally-le : (t : Bool) → tally t ≤ 1
 tally-le true = lit≤ tt
 tally-le false = lit≤ tt
@@ -42,3 +50,9 @@ pub count-le : (n : ℕ) (test : ℕ → Bool) → countWhere n test ≤ n
 unfolding countWhere
 count-le zero test = lit≤ tt
 count-le (suc n) test = omega (arith, count-le n test, tally-le (test n))
+
+-- where no number below n passes the test, none is counted
+pub count-none : (n : ℕ) (test : ℕ → Bool) → ((k : ℕ) → k < n → test k ≡ false) → countWhere n test ≡ 0
+unfolding countWhere
+count-none zero test e = refl
+count-none (suc n) test e = ap (λ t. countWhere n test + tally t) (e n (omega arith)) ∙ ap (λ m. m + 0) (count-none n test (λ k l. e k (omega arith)))
