@@ -14,6 +14,10 @@ Slice A = RefT (List A)
 abbrev pub Lent : Type 0 → Type 0
 Lent A = Both (Slice A) (Slice A)
 
+-- a number behind a reference, in an `ensures`
+abbrev pub LentNumber : Type 0
+LentNumber = Both (RefT ℕ) (RefT ℕ)
+
 -- ---- in a `requires`
 
 abbrev pub inputsNow : (query key value : Slice Float) → (boolMask : Slice ℕ) → (floatMask pastKey pastValue : Slice Float) → (live : Slice ℤ) → Inputs

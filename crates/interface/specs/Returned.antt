@@ -1,8 +1,10 @@
 -- What the exported functions give back: numbers behind references, with the tensors of a call or with one value. Definitions only.
 use Prim.Native.Nat.{ℕ}
 use lib.Ieee.{Float}
+use denote.Ref.{now}
 use Rattle.call.specs.Answers.{Report, reportOf}
 use Rattle.call.specs.Tensors.{Outputs}
+use Rattle.call.specs.Lent.{LentNumber}
 use Rattle.attention.specs.Outcomes.{Outcome}
 use Rattle.tables.specs.declared.PowerEntry.{PowerEntry}
 use Rattle.tables.specs.declared.PowerEntry.the-variants.{Entry, NoEntry}
@@ -21,6 +23,10 @@ pub record Returned : Type 0 where
 
 abbrev pub returned : (number tensor index total masked : ℕ) → Outputs → Returned
 returned number tensor index total masked tensors = record { report = record { number = number; tensor = tensor; index = index; total = total; masked = masked }; tensors = tensors }
+
+-- the same, as an `ensures` names the numbers behind references
+abbrev pub returnedBy : ℕ → (tensor index total masked : LentNumber) → Outputs → Returned
+returnedBy number tensor index total masked tensors = returned number (now (tensor .exit)) (now (index .exit)) (now (total .exit)) (now (masked .exit)) tensors
 
 abbrev pub returnedOf : Outcome → Returned
 returnedOf o = record { report = reportOf (o .answer); tensors = o .tensors }

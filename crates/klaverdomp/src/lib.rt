@@ -3,14 +3,15 @@
 pub mod sessions;
 
 ghost use mathlib.Core.Path.{_≡_};
+ghost use Rattle.attention.specs.StepLent.{stepGiven, stepBefore, stepAfter};
 ghost use Rattle.call.specs.Lent.{inputsGiven, outputsBefore, outputsAfter};
 ghost use Rattle.attention.specs.Outcomes.{attentionOf};
-ghost use Rattle.attention.specs.Entries.{stepInputs, stepOutputs, stepOf};
+ghost use Rattle.attention.specs.Entries.{stepOf};
 ghost use Rattle.tables.specs.Power.{powerEntryOf};
 ghost use Rattle.tables.specs.Scale.{defaultScaleOf};
 ghost use Rattle.exponential.specs.ExpNeg.{expNegOf, expNegRowOf};
 ghost use Rattle.interface.specs.Record.{callOf};
-ghost use Rattle.interface.specs.Returned.{returned, returnedOf, told, exponentialTold, powerTold, scaleTold};
+ghost use Rattle.interface.specs.Returned.{returnedOf, told, exponentialTold, powerTold, scaleTold, returnedBy};
 use exponential::Exponential;
 use tables::DefaultScale;
 use tables::PowerEntry;
@@ -39,7 +40,7 @@ pub extern "C" fn klaverdomp_attention_3<'a>(
     total: &mut u64,
     masked: &mut u64,
 ) -> u32
-    ensures { λ r. ⌜ returned r (now (tensor .exit)) (now (index .exit)) (now (total .exit)) (now (masked .exit)) (outputsAfter output presentkey presentvalue scores work) ≡ returnedOf (attentionOf (callOf (now (numbers .entry)) scale softcap) (inputsGiven query key value boolmask floatmask pastkey pastvalue live) (outputsBefore output presentkey presentvalue scores work)) ⌝ }
+    ensures { λ r. ⌜ returnedBy r tensor index total masked (outputsAfter output presentkey presentvalue scores work) ≡ returnedOf (attentionOf (callOf (now (numbers .entry)) scale softcap) (inputsGiven query key value boolmask floatmask pastkey pastvalue live) (outputsBefore output presentkey presentvalue scores work)) ⌝ }
 {
     let call = interface_record::decode(numbers, scale, softcap);
     let answer = entry::attention(
@@ -86,7 +87,7 @@ pub extern "C" fn klaverdomp_step_3<'a>(
     total: &mut u64,
     masked: &mut u64,
 ) -> u32
-    ensures { λ r. ⌜ returned r (now (tensor .exit)) (now (index .exit)) (now (total .exit)) (now (masked .exit)) (stepOutputs (now (output .exit)) (now (presentkey .exit)) (now (presentvalue .exit)) (now (work .exit))) ≡ returnedOf (stepOf (callOf (now (numbers .entry)) scale softcap) (stepInputs (now (query .entry)) (now (key .entry)) (now (value .entry)) (now (pastkey .entry)) (now (pastvalue .entry))) (stepOutputs (now (output .entry)) (now (presentkey .entry)) (now (presentvalue .entry)) (now (work .entry)))) ⌝ }
+    ensures { λ r. ⌜ returnedBy r tensor index total masked (stepAfter output presentkey presentvalue work) ≡ returnedOf (stepOf (callOf (now (numbers .entry)) scale softcap) (stepGiven query key value pastkey pastvalue) (stepBefore output presentkey presentvalue work)) ⌝ }
 {
     let call = interface_record::decode(numbers, scale, softcap);
     let answer = step::step(

@@ -3,7 +3,7 @@ ghost use mathlib.Core.Path.{_≡_};
 ghost use Rattle.session_file.specs.Reader.{readOf, loadOf};
 ghost use Rattle.session_file.specs.Writer.{beginOf, appendOf};
 ghost use Rattle.session_file.specs.Numbers.{readingReport};
-ghost use Rattle.session_interface.specs.Sessions.{readingOf, loadedWith, loadedReport, savedWith, savedReport, sizesOf};
+ghost use Rattle.session_interface.specs.Sessions.{loadedWith, loadedReport, savedReport, sizesOf, readingBy, savedBy};
 use session_file::Sizes;
 
 // What stands in a file. The result is 0, with its sizes, how many positions are whole and how many bytes these have, or the number of the refusal, with its place.
@@ -18,7 +18,7 @@ pub extern "C" fn klaverdomp_session_inspect_1(
     used: &mut u64,
     place: &mut u64,
 ) -> u32
-    ensures { λ r. ⌜ readingOf r (now (batches .exit)) (now (kvheads .exit)) (now (size .exit)) (now (vsize .exit)) (now (positions .exit)) (now (used .exit)) (now (place .exit)) ≡ readingReport (readOf (now (file .entry))) ⌝ }
+    ensures { λ r. ⌜ readingBy r batches kvheads size vsize positions used place ≡ readingReport (readOf (now (file .entry))) ⌝ }
 {
     let given = session_answers::report_reading(session_inspect::inspect(file));
     *batches = given.batches;
@@ -45,7 +45,7 @@ pub extern "C" fn klaverdomp_session_load_1(
     used: &mut u64,
     place: &mut u64,
 ) -> u32
-    ensures { λ r. ⌜ loadedWith (readingOf r (now (batches .exit)) (now (kvheads .exit)) (now (size .exit)) (now (vsize .exit)) (now (positions .exit)) (now (used .exit)) (now (place .exit))) (now (keys .exit)) (now (values .exit)) ≡ loadedReport (loadOf (now (file .entry)) (now (keys .entry)) (now (values .entry))) ⌝ }
+    ensures { λ r. ⌜ loadedWith (readingBy r batches kvheads size vsize positions used place) (now (keys .exit)) (now (values .exit)) ≡ loadedReport (loadOf (now (file .entry)) (now (keys .entry)) (now (values .entry))) ⌝ }
 {
     let reading = session_load::load(file, keys, values);
     let given = session_answers::report_reading(reading);
@@ -71,7 +71,7 @@ pub extern "C" fn klaverdomp_session_begin_1(
     used: &mut u64,
     place: &mut u64,
 ) -> u32
-    ensures { λ r. ⌜ savedWith r (now (positions .exit)) (now (used .exit)) (now (place .exit)) (now (buffer .exit)) ≡ savedReport (beginOf (now (buffer .entry)) (sizesOf batches kvheads size vsize)) ⌝ }
+    ensures { λ r. ⌜ savedBy r positions used place buffer ≡ savedReport (beginOf (now (buffer .entry)) (sizesOf batches kvheads size vsize)) ⌝ }
 {
     let sizes = Sizes {
         batches: batches as usize,
@@ -99,7 +99,7 @@ pub extern "C" fn klaverdomp_session_append_1(
     used: &mut u64,
     place: &mut u64,
 ) -> u32
-    ensures { λ r. ⌜ savedWith r (now (positions .exit)) (now (used .exit)) (now (place .exit)) (now (buffer .exit)) ≡ savedReport (appendOf (now (buffer .entry)) from count (now (keys .entry)) (now (values .entry))) ⌝ }
+    ensures { λ r. ⌜ savedBy r positions used place buffer ≡ savedReport (appendOf (now (buffer .entry)) from count (now (keys .entry)) (now (values .entry))) ⌝ }
 {
     let saving = session_append::append(buffer, from as usize, count as usize, keys, values);
     let given = session_answers::report_saving(saving);

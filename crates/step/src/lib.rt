@@ -1,7 +1,8 @@
 // The step entry: one position of one batch on a cache, which is the call that a decoder makes at every step. It takes the records of the step profile alone.
 ghost use mathlib.Core.Path.{_≡_};
+ghost use Rattle.attention.specs.StepLent.{stepGiven, stepBefore, stepAfter};
 ghost use Rattle.attention.specs.Outcomes.{outcomeOf};
-ghost use Rattle.attention.specs.Entries.{stepInputs, stepOutputs, stepOf};
+ghost use Rattle.attention.specs.Entries.{stepOf};
 use call::Answer;
 use call::Call;
 use call::Refusal;
@@ -19,7 +20,7 @@ pub fn step<'a>(
     presentvalue: &mut [f32],
     work: &mut [f32],
 ) -> Answer
-    ensures { λ r. ⌜ outcomeOf r (stepOutputs (now (output .exit)) (now (presentkey .exit)) (now (presentvalue .exit)) (now (work .exit))) ≡ stepOf call (stepInputs (now (query .entry)) (now (key .entry)) (now (value .entry)) (now (pastkey .entry)) (now (pastvalue .entry))) (stepOutputs (now (output .entry)) (now (presentkey .entry)) (now (presentvalue .entry)) (now (work .entry))) ⌝ }
+    ensures { λ r. ⌜ outcomeOf r (stepAfter output presentkey presentvalue work) ≡ stepOf call (stepGiven query key value pastkey pastvalue) (stepBefore output presentkey presentvalue work) ⌝ }
 {
     if !step_profile::profile_holds(call) {
         return Answer::NotDone(Refusal::Profile);
