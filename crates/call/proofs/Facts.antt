@@ -8,6 +8,7 @@ use lib.ListN.{length}
 use lib.Ieee.Fits.{and-l, and-r}
 use lib.Ieee.Bits.{is-true}
 use borrow.Author.Tests.{le-leb, eq-eqb}
+use mir.Facts.{or-yes}
 use Rattle.bool_laws.proofs.Tests.{four, five, eight}
 use Rattle.call.specs.declared.Call.{Call}
 use Rattle.call.specs.declared.MaskKind.{MaskKind}
@@ -21,10 +22,6 @@ use Rattle.call.specs.Lengths.{inBoolean, inFloat, queryLength, keyLengt
 -- a test that is true passes
 pub holds : {b : Bool} → b ≡ true → T b
 holds e = subst T (sym e) tt
-
-either : (a b : Bool) → T (a || b) → T a ⊎ T b
-either true b t = inl tt
-either false b t = inr t
 
 pub bounds : (lo hi x : ℕ) → T (within lo hi x) → (lo ≤ x) × (x ≤ hi)
 bounds lo hi x t = (leb→le lo x (and-l (leb lo x) (leb x hi) t), leb→le x hi (and-r (leb lo x) (leb x hi) t))
@@ -146,7 +143,7 @@ unfolding settingsHold
 settings→facts c e =
     let q = five (eqb (c .rank) 3 || eqb (c .rank) 4) (leb (c .causal) 1) (modeAllowed (c .mode)) (scaleAllowed (c .scale)) (capAllowed (c .softcap)) (holds e) in
     record {
-      rank = rank-of (c .rank) (either (eqb (c .rank) 3) (eqb (c .rank) 4) (q .0));
+      rank = rank-of (c .rank) (or-yes (eqb (c .rank) 3) (eqb (c .rank) 4) (q .0));
       causal = leb→le (c .causal) 1 (q .1);
       mode = is-true (modeAllowed (c .mode)) (q .2);
       scale = is-true (scaleAllowed (c .scale)) (q .3);
@@ -168,7 +165,7 @@ pub record MaskShaped (c : Call) : Type 0 where
   pub maskk : (c .maskk ≡ 1) ⊎ (c .maskk ≡ totalOf c)
 
 one-or : (full d : ℕ) → T (oneOr full d) → (d ≡ 1) ⊎ (d ≡ full)
-one-or full d t = elim (either (eqb d 1) (eqb d full) t) [ inl u ↦ inl (eqb→eq d 1 u) | inr u ↦ inr (eqb→eq d full u) ]
+one-or full d t = elim (or-yes (eqb d 1) (eqb d full) t) [ inl u ↦ inl (eqb→eq d 1 u) | inr u ↦ inr (eqb→eq d full u) ]
 
 dimensions→facts : (c : Call) → T (dimensionsHold c) → MaskShaped c
 dimensions→facts c t =

@@ -9,7 +9,7 @@ use lib.ListN.{length, getD}
 use Rattle.call.specs.Contents.{Found, nothing, at, firstFrom, firstFault}
 use Rattle.call.specs.Places.{First}
 
-no-index : (i : ℕ) → at i ≡ nothing → ⊥
+pub no-index : (i : ℕ) → at i ≡ nothing → ⊥
 no-index i e = let z : _≡_ {A = ℕ} 0 1 = cc in omega arith
 
 passed : (b : Bool) (i : ℕ) (later : Found) → cond b (at i) later ≡ nothing → (b ≡ false) × (later ≡ nothing)

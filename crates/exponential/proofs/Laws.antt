@@ -11,6 +11,8 @@ use lib.Ieee.{Float, nan, inf, fin, binary32, sub, mul, le, lt, isNan, fits}
 use lib.Ieee.Fits.{mul-fits, and-i}
 use lib.Ieee.Bits.{is-true, is-false}
 use lib.Ieee.Scale.{finite}
+use mir.Facts.{or-no}
+use Rattle.bool_laws.proofs.Tests.{not-either}
 use Rattle.float_laws.specs.Zero.{minusZero}
 use Rattle.float_laws.proofs.Order.{plus, plus-finite, finite-not-nan, le-of-not-lt, lt-of-not-le}
 use Rattle.float_laws.proofs.Product.{mul-mono, mul-not-nan}
@@ -89,12 +91,6 @@ scaled-in-unit d n h = go (le limit y) (scaled-at-limit y) (scaled-below y) (in-
 abbrev pub hasValue : Float → Bool
 hasValue d = not (isNan d || lt d plusZero)
 
-neither : (a b : Bool) → T (not (a || b)) → T (not a) × T (not b)
-neither false false t = (tt, tt)
-
-not-either : (a b : Bool) → T (not a) → T (not b) → T (not (a || b))
-not-either false false s t = tt
-
 pub has-value : (d : Float) → T (not (isNan d)) → T (not (lt d plusZero)) → T (hasValue d)
 has-value d p q = not-either (isNan d) (lt d plusZero) p q
 
@@ -108,7 +104,7 @@ no-value-where d h = ap (λ (b : Bool). cond b NoValue (Value (scaledOf (mul bin
 
 -- where E has a value, it is a number from 0 to 1, and never -0
 pub value-in-unit : (d : Float) → T (hasValue d) → (x : Float) × (expNegOf d ≡ Value x) × InUnit x
-value-in-unit d h = let p = neither (isNan d) (lt d plusZero) h in (scaledOf (mul binary32 d log2e), value-where d h, scaled-in-unit d (p .0) (p .1))
+value-in-unit d h = let p = or-no (isNan d) (lt d plusZero) h in (scaledOf (mul binary32 d log2e), value-where d h, scaled-in-unit d (p .0) (p .1))
 
 -- E(+0) = E(-0) = 1
 pub value-at-zero : expNegOf plusZero ≡ Value one

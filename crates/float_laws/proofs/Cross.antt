@@ -11,6 +11,8 @@ use lib.Ieee.{Float, nan, inf, fin, up, down, neg, lt, le}
 use lib.Ieee.Fits.{and-l, and-r, and-i, eq→eqb}
 use lib.Ieee.Positive.{den}
 use lib.Ieee.Scale.{finite}
+use mir.Facts.{or-yes}
+use Rattle.bool_laws.proofs.Tests.{or-l, or-r}
 pub use Rattle.float_laws.specs.Zero.{plusZero}
 
 abbrev pub gain : Float → ℕ
@@ -26,20 +28,8 @@ loss (fin false m e) = 0
 loss (fin true m e) = m * up e
 
 -- ---- the tests that `le` and `lt` make
-pub or-l : (a b : Bool) → T a → T (a || b)
-or-l true b t = tt
-or-l false b t = absurd t
-
-pub or-r : (a b : Bool) → T b → T (a || b)
-or-r true b t = tt
-or-r false b t = t
-
-or-split : (a b : Bool) → T (a || b) → T a ⊎ T b
-or-split true b t = inl tt
-or-split false b t = inr t
-
 test→le : (a b c d : ℕ) → (c ≡ d → a ≡ b) → T (ltb a b || (eqb c d && true)) → a ≤ b
-test→le a b c d g t = elim (or-split (ltb a b) (eqb c d && true) t) [ inl u ↦ omega (arith, ltb→lt a b u) | inr u ↦ omega (arith, g (eqb→eq c d (and-l (eqb c d) true u))) ]
+test→le a b c d g t = elim (or-yes (ltb a b) (eqb c d && true) t) [ inl u ↦ omega (arith, ltb→lt a b u) | inr u ↦ omega (arith, g (eqb→eq c d (and-l (eqb c d) true u))) ]
 
 le→test : (a b c d : ℕ) → (a ≡ b → c ≡ d) → a ≤ b → T (ltb a b || (eqb c d && true))
 le→test a b c d g h =

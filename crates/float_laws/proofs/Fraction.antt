@@ -51,17 +51,17 @@ div-at f (fin s' m e) (fin t' n g) s t a c b d C D B h k =
 
 -- ---- the sum of two values of the same sign
 
-alike : (f : Format) (s : Bool) (a b c : ℕ) → sum f s a s b c ≡ round f s (a + b) c
+pub same-is : (f : Format) (s : Bool) (a b c : ℕ) → sum f s a s b c ≡ round f s (a + b) c
 unfolding sum
-alike f true a b c = refl
-alike f false a b c = refl
+same-is f true a b c = refl
+same-is f false a b c = refl
 
 pub add-at : (f : Format) (x y : Float) (s : Bool) (a c b d : ℕ) → 0 < c → 0 < d → HasValue x s a c → HasValue y s b d → add f x y ≡ round f s (a * d + b * c) (c * d)
 unfolding add
 add-at f (fin s' m e) (fin t' n g) s a c b d C D h k =
     ap (λ (u : Bool). sum f u (m * up e * down g) t' (n * up g * down e) (down e * down g)) (h .0)
     ∙ ap (λ (u : Bool). sum f s (m * up e * down g) u (n * up g * down e) (down e * down g)) (k .0)
-    ∙ alike f s (m * up e * down g) (n * up g * down e) (down e * down g)
+    ∙ same-is f s (m * up e * down g) (n * up g * down e) (down e * down g)
     ∙ round-same f s (m * up e * down g + n * up g * down e) (down e * down g) (a * d + b * c) (c * d) (mul-pos (down-pos e) (down-pos g)) (mul-pos C D) cross
   where
     left : m * up e * down g * (c * d) ≡ a * d * (down e * down g)
@@ -75,9 +75,9 @@ add-at f (fin s' m e) (fin t' n g) s a c b d C D h k =
 
 -- ---- the difference of two values that are not negative, the second no larger
 
-pick : (f : Format) (a b c : ℕ) → b ≤ a → sum f false a true b c ≡ round f false (a - b) c
+pub fall-is : (f : Format) (a b c : ℕ) → b ≤ a → sum f false a true b c ≡ round f false (a - b) c
 unfolding sum
-pick f a b c h = go (ltb a b) (ltb→lt a b)
+fall-is f a b c h = go (ltb a b) (ltb→lt a b)
   where
     go : (t : Bool) → (T t → a < b) → cond t (round f true (b - a) c) (round f false (a - b) c) ≡ round f false (a - b) c
     go true k = absurd (not-le-of-lt (k tt) h)
@@ -95,7 +95,7 @@ sub-at f (fin true m e) y a c b d C D h k l = absurd (true≢false (h .0))
 sub-at f (fin false m e) (fin true n g) a c b d C D h k l = absurd (true≢false (k .0))
 sub-at f (fin false m e) (fin false n g) a c b d C D h k l =
     opened f m e n g
-    ∙ pick f (m * up e * down g) (n * up g * down e) (down e * down g) (transfer (n * up g) (m * up e) (down g) (down e) b a d c D C (k .1) (h .1) l)
+    ∙ fall-is f (m * up e * down g) (n * up g * down e) (down e * down g) (transfer (n * up g) (m * up e) (down g) (down e) b a d c D C (k .1) (h .1) l)
     ∙ round-same f false (m * up e * down g - n * up g * down e) (down e * down g) (a * d - b * c) (c * d) (mul-pos (down-pos e) (down-pos g)) (mul-pos C D) cross
   where
     left : m * up e * down g * (c * d) ≡ a * d * (down e * down g)

@@ -10,7 +10,8 @@ use lib.Ieee.{Float, nan, inf, fin, up, down, neg, below, level, lt, eq, le, isN
 use lib.Ieee.Fits.{and-i, and-l, eq→eqb}
 use lib.Ieee.Positive.{den, den-pos}
 use lib.Ieee.Scale.{finite}
-use Rattle.float_laws.proofs.Cross.{or-l, or-r, lt→cross, cross→lt, neg-finite, gain-neg, loss-neg, den-neg}
+use Rattle.bool_laws.proofs.Tests.{or-l, or-r}
+use Rattle.float_laws.proofs.Cross.{lt→cross, cross→lt, neg-finite, gain-neg, loss-neg, den-neg}
 pub use Rattle.float_laws.proofs.Cross.{plusZero, gain, loss, le→cross, cross→le, neg-neg}
 pub use Rattle.float_laws.proofs.Range.{largest, finite-range, plus, plus-finite, plus-of-value, finite-not-nan, zero-le}
 

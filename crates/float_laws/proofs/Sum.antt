@@ -11,6 +11,7 @@ use lib.Ieee.{Float, nan, inf, fin, Format, up, down, round, sum, add, sub, neg,
 use lib.Ieee.Fits.{down-pos}
 use lib.Ieee.Positive.{den, den-pos}
 use lib.Ieee.Scale.{finite}
+use Rattle.float_laws.proofs.Fraction.{same-is, fall-is}
 use Rattle.float_laws.proofs.Order.{plusZero, gain, loss, plus, plus-finite, le→cross, neg-anti, le-refl, finite-between, finite-not-nan}
 use Rattle.float_laws.proofs.Cross.{neg-finite}
 use Rattle.float_laws.proofs.Rounded.{Rounded, more, less, rounded-mono, rounded-not-nan, round-zero, plus-of-round}
@@ -36,11 +37,6 @@ rise-rounded f a b c p n P N = go (ltb a b) (ltb→lt a b) (nltb→le a b)
     go : (t : Bool) → (T t → a < b) → (T (not t) → b ≤ a) → Rounded f p n c (cond t (round f false (b - a) c) (round f (ltb b a) (a - b) c))
     go true h k = let l : a < b = h tt in more (b - a) (omega arith) refl
     go false h k = tie (ltb b a) (k tt) (nltb→le b a)
-
-same-is : (f : Format) (s : Bool) (a b c : ℕ) → sum f s a s b c ≡ round f s (a + b) c
-unfolding sum
-same-is f true a b c = refl
-same-is f false a b c = refl
 
 add-is : (f : Format) (s : Bool) (m : ℕ) (e : ℤ) (t : Bool) (n : ℕ) (d : ℤ) → add f (fin s m e) (fin t n d) ≡ sum f s (m * up e * down d) t (n * up d * down e) (down e * down d)
 unfolding add
@@ -114,15 +110,7 @@ sub-mono f x x' y y' p p' q q' h k = rw (sub-is f x y, sub-is f x' y') (add-mono
 pub sub-not-nan : (f : Format) (x y : Float) → T (finite x) → T (finite y) → T (not (isNan (sub f x y)))
 sub-not-nan f x y p q = rw (sub-is f x y) (add-not-nan f x (neg y) p (neg-finite y q))
 
--- a / c - b / c where b ≤ a, and -a / c + a / c
-fall-is : (f : Format) (a b c : ℕ) → b ≤ a → sum f false a true b c ≡ round f false (a - b) c
-unfolding sum
-fall-is f a b c l = go (ltb a b) (ltb→lt a b)
-  where
-    go : (t : Bool) → (T t → a < b) → cond t (round f true (b - a) c) (round f false (a - b) c) ≡ round f false (a - b) c
-    go true h = absurd (omega (arith, h tt))
-    go false h = refl
-
+-- -a / c + a / c
 level-is : (f : Format) (a c : ℕ) → sum f true a false a c ≡ round f false (a - a) c
 unfolding sum
 level-is f a c = go (ltb a a) (ltb→lt a a)

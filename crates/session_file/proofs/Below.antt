@@ -7,6 +7,7 @@ use native.Mathlib.Numerals.{add-one}
 use native.Mathlib.Decide.{decLt}
 use native.Mathlib.Omega.{arith}
 use borrow.Author.Tests.{ltb-false, le-ltb}
+use Rattle.call.proofs.Search.{no-index}
 use Rattle.bool_laws.proofs.Counts.{count-none, tally-none}
 use Rattle.bool_laws.specs.Counts.{tally, countWhere}
 use Rattle.call.specs.Contents.{nothing, at}
@@ -35,9 +36,6 @@ module _ (test : ℕ → Bool) where
 
 -- ---- the least that passes
 
-no-found : (j : ℕ) → at j ≡ nothing → ⊥
-no-found j f = let q : _≡_ {A = ℕ} 0 1 = cc in omega arith
-
 -- where nothing is found each fails
 pub least-none→each : (test : ℕ → Bool) (n i : ℕ) → leastFrom test n i ≡ nothing → (k : ℕ) → k < n → test (i + k) ≡ false
 unfolding leastFrom
@@ -46,6 +44,6 @@ least-none→each test (suc n) i e k h = go (test i) refl (least-none→each tes
   where
     go : (b : Bool) → test i ≡ b → (leastFrom test n (suc i) ≡ nothing → (j : ℕ) → j < n → test (suc i + j) ≡ false) → cond b (at i) (leastFrom test n (suc i)) ≡ nothing
         → (k : ℕ) → k < suc n → test (i + k) ≡ false
-    go true t rest f k h = absurd (no-found i f)
+    go true t rest f k h = absurd (no-index i f)
     go false t rest f zero h = ap test (add-zero i) ∙ t
     go false t rest f (suc j) h = ap test (add-suc i j ∙ sym (suc-add i j)) ∙ rest f j (omega arith)

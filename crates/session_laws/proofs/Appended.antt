@@ -11,7 +11,7 @@ use lib.ListN.{length, getD, take, drop, length-append, length-take}
 use lib.Seq.{length-take-le, take-take, take-at, drop-at}
 use borrow.Author.Tests.{eqb-true}
 use Rattle.session_file.proofs.Caches.{by-cells, length-row, row-cell}
-use Rattle.bool_laws.proofs.Tests.{both-true}
+use Rattle.bool_laws.proofs.Tests.{both-true, either-false}
 use Rattle.call.specs.Contents.{nothing, elementFault}
 use Rattle.records.specs.Records.{writtenAt}
 use Rattle.session_file.specs.declared.Sizes.{Sizes}
@@ -33,10 +33,6 @@ use Rattle.session_laws.proofs.Saved.{ends→read}
 use Rattle.session_laws.proofs.Passed.{Passed, saved→passed}
 
 -- ---- rows without fault
-
-either-false : (a b : Bool) → (a || b) ≡ false → (a ≡ false) × (b ≡ false)
-either-false true b e = absurd (true≢false e)
-either-false false b e = (refl, e)
 
 module _ (z : Sizes) (count : ℕ) (keys values : List Float) (sound : leastFrom (rowsFault (sessionOf z count keys values)) count 0 ≡ nothing) where
   -- no row of a position is at fault

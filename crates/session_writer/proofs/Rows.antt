@@ -9,6 +9,7 @@ use lib.Arith.{digits-lt}
 use lib.Dec.{T, ltb}
 use lib.ListN.{length, getD, take, drop, length-append}
 use lib.Ieee.{Float, nan, isNan}
+use Rattle.bool_laws.proofs.Tests.{either-false}
 use Rattle.session_file.proofs.Caches.{row-inside, length-row}
 use Rattle.bool_laws.specs.Counts.{countWhere}
 use Rattle.tensor_laws.proofs.Parts.{length-part, row-end}
@@ -111,16 +112,12 @@ either-second false b e = e
 pub neither-of : (a b : Bool) → a ≡ false → b ≡ false → a || b ≡ false
 neither-of a b e f = ap (λ (c : Bool). c || b) e ∙ f
 
-neither : (a b : Bool) → a || b ≡ false → (a ≡ false) × (b ≡ false)
-neither true b e = absurd (true≢false e)
-neither false b e = (refl, e)
-
 -- the rows of a position without fault
 sound-rows : (z : Sizes) (n : ℕ) (keys values : List Float) (p r : ℕ) → rowsFault (sessionOf z n keys values) p ≡ false → r < rowsOf z
     → (rowFault (cacheRow n (z .size) keys p r) ≡ false) × (rowFault (cacheRow n (z .vsize) values p r) ≡ false)
 unfolding rowsFault
 sound-rows z n keys values p r e h =
-    neither (rowFault (cacheRow n (z .size) keys p r)) (rowFault (cacheRow n (z .vsize) values p r)) (none→each (pairFault z n keys values p) (rowsOf z) e r h)
+    either-false (rowFault (cacheRow n (z .size) keys p r)) (rowFault (cacheRow n (z .vsize) values p r)) (none→each (pairFault z n keys values p) (rowsOf z) e r h)
 
 module _ (z : Sizes) (n : ℕ) (keys values : List Float) (p : ℕ) where
   pub rows-faulty : (r : ℕ) → r < rowsOf z → pairFault z n keys values p r ≡ true → rowsFault (sessionOf z n keys values) p ≡ true

@@ -8,6 +8,7 @@ use lib.Dec.{T, leb, leb→le, nleb→lt, lit<, lit≤}
 use lib.Ieee.{Float, binary32, round, neg, add, sub, mul, div, le, lt, isNan}
 use lib.Ieee.Order.{round-mono}
 use lib.Ieee.Scale.{finite}
+use Rattle.bool_laws.proofs.Tests.{not-either}
 use Rattle.float_laws.proofs.Order.{plus, plus-finite, finite-not-nan, lt→le, le-of-not-lt, not-lt-of-le, lt-of-lt-of-le, finite-between}
 use Rattle.float_laws.proofs.Order.{le-trans as le-trans-float, le-refl as le-refl-float, zero-le as zero-le-float}
 use Rattle.float_laws.proofs.Sum.{add-mono, add-plus, sub-self, sub-not-nan, zero-le-sub}
@@ -106,10 +107,7 @@ module _ (n : ℕ) (sees : ℕ → Bool) (score : ℕ → Float) (ok : (j : ℕ)
   asked-where-valued m e j l s =
       let d = sub binary32 m (score j) in
       let f = largest-finite m e in
-      neither (isNan d) (lt d plusZero) (sub-not-nan binary32 m (score j) f (ok j l s)) (not-lt-of-le plusZero d (zero-le-sub binary32 m (score j) f (ok j l s) (largest-above m e j l s)))
-    where
-      neither : (a b : Bool) → T (not a) → T (not b) → T (not (a || b))
-      neither false false p q = tt
+      not-either (isNan d) (lt d plusZero) (sub-not-nan binary32 m (score j) f (ok j l s)) (not-lt-of-le plusZero d (zero-le-sub binary32 m (score j) f (ok j l s) (largest-above m e j l s)))
 
   -- the term of the largest score is 1
   pub largest-term-one : (m : Float) → largestOf n sees score ≡ largest m → termOf (largest m) m ≡ one

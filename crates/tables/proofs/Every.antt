@@ -2,8 +2,9 @@
 use mathlib.Core.Path.{refl, _∙_, subst, sym}
 use mathlib.Core.Bool.{Bool, true, false, _&&_}
 use mathlib.Core.List.{List, [], _∷_}
-use Prim.Native.Nat.{ℕ, zero, suc, _+_, _*_, _<_}
+use Prim.Native.Nat.{ℕ, zero, suc, _+_, _-_, _*_, _≤_, _<_}
 use native.Mathlib.Nat.{add-zero, zero-add, add-suc, suc-add, le-of-suc-le-suc, not-suc-le-zero}
+use native.Mathlib.Omega.{arith}
 use lib.Dec.{T, eqb, eqb→eq}
 use lib.Ieee.Exact.{HasValue}
 use lib.Ieee.{Float, nan, inf, fin, up, down}
@@ -34,3 +35,8 @@ isFraction (fin false n e) m c = eqb (n * up e * c) (m * down e)
 
 pub fraction→value : (x : Float) (m c : ℕ) → T (isFraction x m c) → HasValue x false m c
 fraction→value (fin false n e) m c t = (refl, eqb→eq (n * up e * c) (m * down e) t)
+
+-- ---- the next odd numbers
+
+pub odd-order : (m n : ℕ) → 2 * m - 1 < 2 * n + 1 → m ≤ n
+odd-order m n h = omega arith

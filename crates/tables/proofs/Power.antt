@@ -10,7 +10,7 @@ use lib.Ieee.{binary32, ofBits, nanBits}
 use lib.Ieee.Exact.{HasValue}
 use Rattle.bool_laws.proofs.Tests.{three, four}
 use Rattle.tables.specs.Power.{PowerRule, powerBits, powerOf}
-use Rattle.tables.proofs.Every.{every, at, isFraction, fraction→value}
+use Rattle.tables.proofs.Every.{every, at, isFraction, fraction→value, odd-order}
 
 -- ---- the test
 
@@ -58,9 +58,6 @@ power-not-nan f h =
     three (ruled f m) (isFraction (ofBits binary32 b) m (2 ^ 24)) (not (nanBits binary32 b)) (at test powerBits passes f (unfold powerBits in h)) .2
 
 -- ---- no other number obeys the rule
-
-odd-order : (m n : ℕ) → 2 * m - 1 < 2 * n + 1 → m ≤ n
-odd-order m n h = omega arith
 
 rule-le : (f m n : ℕ) → PowerRule f m → PowerRule f n → m ≤ n
 rule-le f m n p q =

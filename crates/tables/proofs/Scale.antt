@@ -18,7 +18,7 @@ use Rattle.bool_laws.proofs.Tests.{three, four}
 use Rattle.tables.specs.declared.DefaultScale.the-variants.{ScaleIs, NoScale}
 use Rattle.float_laws.specs.Zero.{plusZero}
 use Rattle.tables.specs.Scale.{ScaleRule, scaleBits, defaultScaleOf}
-use Rattle.tables.proofs.Every.{every, at, isFraction, fraction→value}
+use Rattle.tables.proofs.Every.{every, at, isFraction, fraction→value, odd-order}
 
 -- ---- the test: the bits of a scale stand for m * 2 ^ -x
 
@@ -73,9 +73,6 @@ scale-not-nan i h =
 
 root-lt : (a b D : ℕ) → a * a * D < b * b * D → a < b
 root-lt a b D h = lt-of-not-le (λ (g : b ≤ a). not-le-of-lt h (mul-le-mul-right D (mul-le-mul g g)))
-
-odd-order : (m n : ℕ) → 2 * m - 1 < 2 * n + 1 → m ≤ n
-odd-order m n h = omega arith
 
 -- where the exponents agree
 same-exponent : (D m n x : ℕ) → ScaleRule D m x → ScaleRule D n x → m ≤ n

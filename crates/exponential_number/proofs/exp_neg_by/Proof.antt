@@ -5,6 +5,7 @@ use lib.Dec.{T, T-not}
 use lib.Ieee.{Float, nan, inf, fin, binary32, ne, lt, le, mul, isNan, ofBits, nanBits}
 use lib.Ieee.Compare.{differs-from-itself, nan-differs}
 use denote.Floats.{passes}
+use Rattle.bool_laws.proofs.Tests.{or-l, or-r}
 use Rattle.exponential.specs.declared.Exponential.the-variants.{Value}
 use Rattle.exponential.specs.ExpNeg.{plusZero, limit, log2e}
 use Rattle.exponential.proofs.Laws.{fails, hasValue, has-value, value-where, no-value-where, value-at-limit, in-range-below, scaled-below}
@@ -12,14 +13,6 @@ use Rattle.exponential_number.proofs.exp_neg_by.Statement.{statement}
 use Rattle.exponential_number.proofs.exp_neg_by.Tie as tie
 
 -- ---- what the tests say of d
-left : (a b : Bool) → T a → T (a || b)
-left true b t = tt
-left false b t = absurd t
-
-right : (a b : Bool) → T b → T (a || b)
-right true b t = tt
-right false b t = t
-
 is-nan : (d : Float) → ne d d ≡ true → T (isNan d)
 is-nan d e = subst (λ (x : Float). T (isNan x)) (sym (differs-from-itself d (passes (ne d d) e))) (unfold isNan in tt)
 
@@ -31,11 +24,11 @@ not-nan (fin s m x) e = tt
 
 -- ---- the needs
 returns : tie.Need-returns
-returns c = let d = c .before .args .d in sym (no-value-where d (left (isNan d) (lt d plusZero) (is-nan d (c .if1 .taken))))
+returns c = let d = c .before .args .d in sym (no-value-where d (or-l (isNan d) (lt d plusZero) (is-nan d (c .if1 .taken))))
 
 returns-2 : tie.Need-returns-2
 unfolding ofBits
-returns-2 c = let d = c .before .before .args .d in sym (no-value-where d (right (isNan d) (lt d plusZero) (passes (lt d plusZero) (c .if2 .taken))))
+returns-2 c = let d = c .before .before .args .d in sym (no-value-where d (or-r (isNan d) (lt d plusZero) (passes (lt d plusZero) (c .if2 .taken))))
 
 float-from-bits-y : tie.Need-float-from-bits-y
 unfolding nanBits
