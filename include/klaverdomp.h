@@ -248,12 +248,13 @@ typedef struct klaverdomp_session_reading {
     uint64_t used;       /* the byte behind the last whole record; a cut record begins there */
 } klaverdomp_session_reading;
 
-/* What a buffer holds after a begin or an append. The numbers behind place are 0 where it is refused. */
+/* What a buffer holds after a begin or an append. Where it is refused positions is 0, and used is what the append was lent, or 0 of a
+ * begin: so `saved = klaverdomp_session_append(.., saved.used, ..)` goes on with the same file after a refusal too. */
 typedef struct klaverdomp_session_saving {
     uint32_t refusal;   /* KLAVERDOMP_DONE, or the number of the refusal */
     uint64_t place;     /* refusal 9: the position at fault, counted as in the file; refusal 11: as in a reading; else 0 */
     uint64_t positions; /* how many stand whole in the buffer: these are saved */
-    uint64_t used;      /* the byte behind the last of them: the file is what stands before it */
+    uint64_t used;      /* the byte behind the last of them: the file is what stands before it; the lent one where an append is refused */
 } klaverdomp_session_saving;
 
 /* ---- the functions of the library ---- */
@@ -297,7 +298,7 @@ uint32_t klaverdomp_step_3(
     float *work, size_t work_len,
     uint64_t *tensor, uint64_t *index, uint64_t *total, uint64_t *masked_rows);
 
-/* Every number of an answer is written, whatever it is. */
+/* Every number of an answer is written, whatever it is. Those behind place are 0 where it is refused, also used_after of an append. */
 
 uint32_t klaverdomp_session_inspect_1(
     const uint8_t *file, size_t file_len,
@@ -449,7 +450,14 @@ static inline klaverdomp_session_saving klaverdomp_session_begin(
  *
  * The refusals, in this order: 16 where `used` is beyond the buffer; that of the file as klaverdomp_session_inspect gives it; 1 for more
  * than 2,048 positions in all; 5 where keys or values have another length; 9 for an element of theirs, with the least position at fault;
- * 16 where the buffer ends before the last of the records to be written does. */
+ * 16 where the buffer ends before the last of the records to be written does. A refused append leaves the file as it was, and answers the
+ * `used` that it was lent.
+ *
+ * What it costs: any bytes may stand in the buffer, so every append reads the whole file in it, each element too. Adding one position at a
+ * time to one buffer reads n * n / 2 records for n positions in all. Go on more cheaply where the file is on a disk: a record does not depend
+ * on what stands before it, so keep a buffer of 14 + count * (6 + 4 * B * Hkv * (D + Dv)) bytes, begin a file of the same sizes there, add
+ * the new positions to it, and write its bytes behind the first 14 to the place on the disk where the last whole record ends. Then the
+ * caller sees to it that there are at most 2,048 in all. `SavedSession` of the Rust crate in host/klaverdomp does that. */
 static inline klaverdomp_session_saving klaverdomp_session_append(
     uint8_t *buffer, size_t buffer_len, uint64_t used, uint64_t count,
     const float *keys, size_t keys_len, const float *values, size_t values_len)
@@ -463,6 +471,8 @@ static inline klaverdomp_session_saving klaverdomp_session_append(
         keys ? keys : &no_float, keys ? keys_len : 0,
         values ? values : &no_float, values ? values_len : 0,
         &s.positions, &s.used, &s.place);
+    if (s.refusal != KLAVERDOMP_DONE)
+        s.used = used;
     return s;
 }
 
