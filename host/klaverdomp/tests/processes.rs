@@ -99,7 +99,7 @@ fn full_disk(path: &Path) {
             error => break error,
         }
     };
-    assert!(said >= 1 && said <= 8, "{said} positions before the disk is full");
+    assert!((1..=8).contains(&said), "{said} positions before the disk is full");
     assert!(error.contains(&format!("{}: ", path.display())) && error.contains("File too large"), "{error}");
     assert!(other.save().starts_with("Err("));
     drop(other.child.stdin.take());

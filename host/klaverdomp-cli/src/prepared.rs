@@ -1,0 +1,136 @@
+// An output that stands written beside its place, and how several of them are put in place, all or none.
+
+use crate::outputs::Output;
+use crate::Failure;
+use std::fs::{self, File, Metadata};
+use std::io::{self, BufWriter, Write};
+use std::os::unix::fs::{fchown, MetadataExt};
+use std::path::{Path, PathBuf};
+use std::process;
+
+/// A file of this process's own, which is removed with this.
+struct Temporary(PathBuf);
+
+impl Drop for Temporary {
+    fn drop(&mut self) {
+        // it has its place now, or is of no use
+        let _ = fs::remove_file(&self.0);
+    }
+}
+
+impl Temporary {
+    /// Makes one in the folder under a name that nothing has.
+    fn make<T>(folder: &Path, make: impl Fn(&Path) -> io::Result<T>) -> io::Result<(Temporary, T)> {
+        let mut n = 0;
+        loop {
+            let path = folder.join(format!(".klaverdomp-{}-{n}.tmp", process::id()));
+            match make(&path) {
+                Ok(made) => return Ok((Temporary(path), made)),
+                Err(error) if error.kind() == io::ErrorKind::AlreadyExists && n < 10_000 => n += 1,
+                Err(error) => return Err(error),
+            }
+        }
+    }
+}
+
+/// An output that is written, and on the disk, beside its place.
+pub struct Prepared<'a> {
+    output: &'a Output,
+    /// Where it goes.
+    real: &'a Path,
+    /// Whether a file is there that it replaces.
+    replaces: bool,
+    new: Temporary,
+    /// The file that it replaces, under another name.
+    old: Option<Temporary>,
+}
+
+impl<'a> Prepared<'a> {
+    /// Writes what goes to `real`, with the owner and the permissions of the file that is there now.
+    pub fn new(
+        output: &'a Output,
+        real: &'a Path,
+        old: Option<&Metadata>,
+        write: impl Fn(&mut dyn Write) -> io::Result<()>,
+    ) -> io::Result<Prepared<'a>> {
+        let made = Temporary::make(folder_of(real), |path| File::create_new(path));
+        let (new, file) = made.map_err(|error| io::Error::other(format!("its folder cannot be written: {error}")))?;
+        let mut target = BufWriter::new(&file);
+        write(&mut target)?;
+        target.flush()?;
+        drop(target);
+        if let Some(old) = old {
+            keep_owner(&file, old);
+            file.set_permissions(old.permissions())?;
+        }
+        file.sync_all()?;
+        Ok(Prepared { output, real, replaces: old.is_some(), new, old: None })
+    }
+
+    /// Gives the file that is there another name, so that it can be put back.
+    fn keep_old(&mut self) -> io::Result<()> {
+        if self.replaces {
+            let link = |path: &Path| fs::hard_link(self.real, path);
+            let copy = |path: &Path| File::create_new(path).and_then(|_| fs::copy(self.real, path)).map(drop);
+            let kept = Temporary::make(folder_of(self.real), link).or_else(|_| Temporary::make(folder_of(self.real), copy));
+            self.old = Some(kept?.0);
+        }
+        Ok(())
+    }
+
+    fn put_in_place(&self) -> io::Result<()> {
+        fs::rename(&self.new.0, self.real)
+    }
+
+    /// What was there is there again.
+    fn put_back(&self) -> io::Result<()> {
+        match &self.old {
+            Some(old) => fs::rename(&old.0, self.real),
+            None => fs::remove_file(self.real),
+        }
+    }
+}
+
+/// The owner and the group of the file that is replaced, as far as this process may set them.
+fn keep_owner(file: &File, old: &Metadata) {
+    if fchown(file, Some(old.uid()), Some(old.gid())).is_err() {
+        let _ = fchown(file, None, Some(old.gid()));
+    }
+}
+
+fn folder_of(real: &Path) -> &Path {
+    real.parent().unwrap_or(real)
+}
+
+/// Puts all in their places, one after the other. If one cannot be, those before it are taken back.
+pub fn put_in_place(mut prepared: Vec<Prepared>) -> Result<(), Failure> {
+    let but_last = prepared.len().saturating_sub(1);
+    for one in &mut prepared[..but_last] {
+        one.keep_old().map_err(|error| one.output.failed(error))?;
+    }
+    for (n, one) in prepared.iter().enumerate() {
+        if let Err(error) = one.put_in_place() {
+            let mut words = error.to_string();
+            for before in prepared[..n].iter().rev() {
+                if let Err(error) = before.put_back() {
+                    let (option, path) = (before.output.option, before.output.path.display());
+                    words.push_str(&format!("\n  and {option} {path} is written, and could not be put back: {error}"));
+                }
+            }
+            return Err(one.output.failed(words));
+        }
+    }
+    prepared.iter().try_for_each(|one| sync_folder(one.real).map_err(|error| one.output.failed(error)))
+}
+
+/// Brings the entry of a file in its folder to the disk, where the folder may be read and the file system can do that.
+fn sync_folder(real: &Path) -> io::Result<()> {
+    let Ok(folder) = File::open(folder_of(real)) else {
+        return Ok(());
+    };
+    match folder.sync_all() {
+        Err(error) if matches!(error.kind(), io::ErrorKind::InvalidInput | io::ErrorKind::Unsupported) => Ok(()),
+        Err(error) => Err(io::Error::other(format!("is written, but its folder cannot be brought to the disk: {error}"))),
+        Ok(()) => Ok(()),
+    }
+}
