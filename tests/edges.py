@@ -128,6 +128,8 @@ def links_and_permissions(tool):
     target.write_bytes(b"old")
     target.chmod(0o640)
     (tool.folder / "k.cache").chmod(0o606)
+    owner = NOBODY if os.geteuid() == 0 else os.geteuid()
+    os.chown(tool.folder / "k.cache", owner, -1)
     old = (tool.folder / "hard").read_bytes()
     status, err, _ = tool.call("--output", "soft", *CACHES, "--mode", "3", "--scores", "dangling", umask=0o027)
     links = [(tool.folder / name).is_symlink() for name in ("soft", "dangling")]
@@ -136,6 +138,7 @@ def links_and_permissions(tool):
     tool.expect("what one to nothing leads to", read(tool.folder / "sub/new.npy")[0], (1, 1, 1, 4))
     modes = [oct((tool.folder / name).stat().st_mode & 0o777) for name in ("sub/y.npy", "k.cache", "sub/new.npy")]
     tool.expect("permissions", modes, ["0o640", "0o606", "0o640"])
+    tool.expect("the owner", (tool.folder / "k.cache").stat().st_uid, owner)
     tool.expect("a hard link", (tool.folder / "hard").read_bytes() == old, True)
     tool.expect("the file beside it", read(tool.folder / "v.cache")[0], (1, 1, 4, 1))
     tool.expect("nothing else", sorted(path.name for path in (tool.folder / "sub").iterdir()), ["new.npy", "y.npy"])

@@ -8,5 +8,5 @@ cd "$(dirname "$0")/.."
 [ -n "${KLAVERDOMP_LIB_DIR:-}" ] || rt staticlib klaverdomp
 cargo test --release --offline --manifest-path host/Cargo.toml --workspace
 cargo build --release --offline --manifest-path host/Cargo.toml --workspace
-python3 tests/command_line.py host/target/release/klaverdomp
-python3 tests/edges.py host/target/release/klaverdomp
+python3 -B tests/command_line.py host/target/release/klaverdomp
+python3 -B tests/edges.py host/target/release/klaverdomp
