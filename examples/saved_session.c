@@ -7,9 +7,12 @@
  *   ./saved_session [FILE]     (default saved_session.klaverdomp; it is written anew)
  *
  * The status is 0 exactly where all of that holds. */
+#define _POSIX_C_SOURCE 200809L
 #include <math.h>
 #include <stdio.h>
 #include <string.h>
+#include <sys/file.h>
+#include <unistd.h>
 
 #include "klaverdomp.h"
 
@@ -160,11 +163,15 @@ static int take_up(session *s, size_t len)
     return r.refusal == KLAVERDOMP_DONE;
 }
 
-/* The first bytes of the session's file, written to a file of that name. */
+/* The first bytes of the session's file, written to a file of that name under the lock that the Rust crate takes too. The file is not
+ * opened with "wb", which would empty it before it is locked. */
 static int write_file(const char *name, const session *s, size_t len)
 {
-    FILE *out = fopen(name, "wb");
-    int good = out != NULL && fwrite(s->file, 1, len, out) == len;
+    FILE *out = fopen(name, "ab");
+    int locked = out != NULL && flock(fileno(out), LOCK_EX | LOCK_NB) == 0;
+    int good = locked && ftruncate(fileno(out), 0) == 0 && fwrite(s->file, 1, len, out) == len;
+    if (!locked)
+        printf("%s: it cannot be opened, or another session has it open to save in it\n", name);
     return (out == NULL || fclose(out) == 0) && good;
 }
 

@@ -230,7 +230,10 @@ typedef struct klaverdomp_answer {
  *   08000000 0100 0100 0100 0100 0100   08000000 0200 0000803F 00000040
  *
  * A file that is cut after any byte behind the first record has exactly the positions that are whole in it. A cut record is one of which
- * fewer than six bytes are there, whatever they hold, or the right head and not the whole payload, whose elements are not looked at. */
+ * fewer than six bytes are there, whatever they hold, or the right head and not the whole payload, whose elements are not looked at.
+ *
+ * The library knows nothing of files on a disk. Who writes one holds flock(LOCK_EX) on it, as the Rust crate and the command line tool do,
+ * so that no two write it at a time. */
 enum {
     KLAVERDOMP_SESSION_FIRST_BYTES = 14, /* the first record */
     KLAVERDOMP_SESSION_HEAD_BYTES = 6    /* length and kind of a record */
@@ -404,7 +407,10 @@ static inline klaverdomp_answer klaverdomp_step(const klaverdomp_call *call, con
  *
  * The fault that comes first in byte order is the refusal: 11 for a first record that is missing, cut or of a wrong head, at byte 0, and
  * for a whole head of wrong kind or length, at the byte where that record begins; 1 for sizes out of their limits and for the right head
- * of a 2,049th position; 9 for an element of a whole record. */
+ * of a 2,049th position; 9 for an element of a whole record.
+ *
+ * What stands before the fault is sound: the first `place` bytes of a file that is refusal 11 behind byte 0 are a file by themselves, and so
+ * are those of the first `place` positions at refusal 9. The first 14 bytes alone tell the sizes, and whether refusal 1 is for them. */
 static inline klaverdomp_session_reading klaverdomp_session_inspect(const uint8_t *file, size_t file_len)
 {
     const uint8_t no_byte = 0;
@@ -453,11 +459,11 @@ static inline klaverdomp_session_saving klaverdomp_session_begin(
  * 16 where the buffer ends before the last of the records to be written does. A refused append leaves the file as it was, and answers the
  * `used` that it was lent.
  *
- * What it costs: any bytes may stand in the buffer, so every append reads the whole file in it, each element too. Adding one position at a
- * time to one buffer reads n * n / 2 records for n positions in all. Go on more cheaply where the file is on a disk: a record does not depend
- * on what stands before it, so keep a buffer of 14 + count * (6 + 4 * B * Hkv * (D + Dv)) bytes, begin a file of the same sizes there, add
- * the new positions to it, and write its bytes behind the first 14 to the place on the disk where the last whole record ends. Then the
- * caller sees to it that there are at most 2,048 in all. `SavedSession` of the Rust crate in host/klaverdomp does that. */
+ * What it costs: any bytes may stand in the buffer, so every append reads the whole file in it, each element too. Adding n positions one
+ * at a time to one buffer reads about n * n / 2 records. Where the file is on a disk there is a cheaper way, since a record does not depend
+ * on what stands before it: keep a buffer of 14 + count * (6 + 4 * B * Hkv * (D + Dv)) bytes, begin a file of the same sizes there, add the
+ * new positions to it, and write its bytes behind the first 14 to the place on the disk where the last whole record ends. Then the caller
+ * sees to it that there are at most 2,048 in all. `SavedSession` of the Rust crate in host/klaverdomp does that. */
 static inline klaverdomp_session_saving klaverdomp_session_append(
     uint8_t *buffer, size_t buffer_len, uint64_t used, uint64_t count,
     const float *keys, size_t keys_len, const float *values, size_t values_len)

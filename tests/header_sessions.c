@@ -41,6 +41,8 @@ static void file_refused(size_t len, uint32_t number, uint64_t place, const char
     memcpy(before, buffer, sizeof buffer);
     expect(reading_refused(klaverdomp_session_inspect(buffer, len), number, place), what);
     expect(reading_refused(klaverdomp_session_load(buffer, len, keys, 2, values_read, 1), number, place), what);
+    if (number == KLAVERDOMP_ELEMENT || place > 0) /* what stands before the fault is a file of whole positions */
+        expect(klaverdomp_session_inspect(buffer, number == KLAVERDOMP_ELEMENT ? 14 + 14 * place : place).refusal == KLAVERDOMP_DONE, what);
     s = klaverdomp_session_append(buffer, len, len, UINT64_MAX, NULL, 5, NULL, 5);
     expect(s.refusal == number && s.place == place && s.positions == 0 && s.used == len, what);
     expect(memcmp(buffer, before, sizeof buffer) == 0, what);
@@ -194,7 +196,7 @@ static void savings_that_are_refused(void)
     saving_refused(klaverdomp_session_append(buffer, 28, 29, 0, NULL, 0, NULL, 0), 29, KLAVERDOMP_ROOM, 0, "more used than there is");
     saving_refused(klaverdomp_session_append(buffer, 28, UINT64_MAX, 1, rows, 1, rows, 1), UINT64_MAX, KLAVERDOMP_ROOM, 0, "all bytes used");
     for (i = 0; i < 4; i++)
-        saving_refused(klaverdomp_session_append(buffer, 28, 28, counts[i], rows, 0, rows, 0), 28, KLAVERDOMP_LIMITS, 0, "a 2,049th position");
+        saving_refused(klaverdomp_session_append(buffer, 28, 28, counts[i], rows, 0, rows, 0), 28, KLAVERDOMP_LIMITS, 0, "too many");
     saving_refused(klaverdomp_session_append(buffer, 28, 28, 1, rows, 2, rows, 1), 28, KLAVERDOMP_INPUT_LENGTH, 0, "a key too many");
     saving_refused(klaverdomp_session_append(buffer, 28, 28, 1, rows, 1, NULL, 1), 28, KLAVERDOMP_INPUT_LENGTH, 0, "a value too few");
     saving_refused(klaverdomp_session_append(buffer, 28, 28, 0, rows, 1, rows, 0), 28, KLAVERDOMP_INPUT_LENGTH, 0, "a key of no position");
