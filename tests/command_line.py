@@ -343,7 +343,7 @@ cut bytes behind {behind}
                             "refusal 1: a 2,049th position begins at byte 28686"),
         "another kind": (good[:56] + b"\x03" + good[57:],
                          "refusal 11: byte 52: the record that begins there is of the wrong kind or length\n"
-                         "  sound before that: batch 2, key heads 1, head size 3, value head size 1; 1 positions, up to byte 52\n"
+                         "  sound before that: batch 2, key heads 1, head size 3, value head size 1, positions 1; up to byte 52\n"
                          "  the first 52 bytes are a whole file: in a copy that is cut there the session can be taken up\n"),
         "another length": (good[:15] + b"\x01" + good[16:], "refusal 11: byte 14: "),
         "a NaN": (good[:100] + nan + good[104:], "refusal 9: position 2 has an element"),

@@ -53,6 +53,7 @@ def between_two_renames(tool):
         option = ("--output", "--scores", "--present-key", "--present-value")[at - 1]
         fault = f"{option} {order[at - 1]}: Device or resource busy"
         tool.nothing(f"rename {at} fails", fault, *words, env={**os.environ, **stop})
+        tool.nothing(f"rename {at} fails, and there are no links", fault, *words, env={**os.environ, **stop, "NO_LINKS": "1"})
         for name in order[:at]:
             (tool.folder / name).unlink()
         words_without_past = ("--output", "y.npy", *SCORES, *CACHES[4:])

@@ -1,11 +1,22 @@
-/* Loaded before the C library by tests/edges.py: the RENAME_AT-th rename of the process kills it (RENAME_HOW kill) or fails (any other
- * word), before it is done. */
+/* Loaded before the C library by tests/edges_kills.py: the RENAME_AT-th rename of the process kills it (RENAME_HOW kill) or fails (any
+ * other word), before it is done. With NO_LINKS every hard link fails, as on a file system that has none. */
 #define _GNU_SOURCE
 #include <dlfcn.h>
 #include <errno.h>
 #include <signal.h>
 #include <stdlib.h>
 #include <string.h>
+
+int linkat(int from_folder, const char *from, int to_folder, const char *to, int flags)
+{
+    int (*next)(int, const char *, int, const char *, int);
+    if (getenv("NO_LINKS") != NULL) {
+        errno = EPERM;
+        return -1;
+    }
+    *(void **)&next = dlsym(RTLD_NEXT, "linkat");
+    return next(from_folder, from, to_folder, to, flags);
+}
 
 int rename(const char *from, const char *to)
 {

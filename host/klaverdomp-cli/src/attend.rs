@@ -38,8 +38,8 @@ Files are written only when done. Each is written beside its place, and when all
 the caches last; if one of them can't be, all are as they were. A link is followed. A pipe or a device is written directly,
 when the others are ready and before they are put in their places.
 A call that is killed between two files leaves each of them whole, the old or the new one, but the present key and value may
-then be of two calls. Where a call writes over its own past, their lengths differ, and the next call is refusal 5. It may also
-leave files named .klaverdomp-*.tmp, which can be removed.
+then be of two calls. Where a call writes over its own past, their lengths differ, and the next call gets refusal 5. It may
+also leave files named .klaverdomp-*.tmp, which can be removed.
 
 Exit status: 0 done; 1 refused by the operator; 2 bad usage or a bad file.
 ";

@@ -78,6 +78,7 @@ fn run(command: Option<&str>, words: Vec<OsString>) -> Result<(), Failure> {
         Some("--help" | "-h") => say(HELP),
         Some("help") => match &words[..] {
             [] => say(HELP),
+            [word] if word == "help" => say(HELP),
             [word] => say(find(&word.to_string_lossy())?.1),
             _ => Err(usage("help is for one command at a time".to_string())),
         },

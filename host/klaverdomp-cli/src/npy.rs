@@ -78,7 +78,7 @@ impl NpyError {
         };
         let or = |words: fn(Kind) -> &'static str| needed.iter().map(|kind| words(*kind)).collect::<Vec<_>>().join(" or ");
         let (types, how) = (or(|kind| kind.words().0), or(|kind| kind.words().1));
-        format!("holds elements of {there}, and {types} is needed; in NumPy {how} makes it of them")
+        format!("holds elements of {there}, and {types} is needed; in NumPy {how} converts them")
     }
 }
 

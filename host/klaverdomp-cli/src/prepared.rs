@@ -2,9 +2,9 @@
 
 use crate::outputs::Output;
 use crate::Failure;
-use std::fs::{self, File, Metadata};
+use std::fs::{self, File, Metadata, OpenOptions};
 use std::io::{self, BufWriter, Write};
-use std::os::unix::fs::{fchown, MetadataExt};
+use std::os::unix::fs::{fchown, MetadataExt, OpenOptionsExt};
 use std::path::{Path, PathBuf};
 use std::process;
 
@@ -53,7 +53,9 @@ impl<'a> Prepared<'a> {
         old: Option<&Metadata>,
         write: impl Fn(&mut dyn Write) -> io::Result<()>,
     ) -> io::Result<Prepared<'a>> {
-        let made = Temporary::make(folder_of(real), |path| File::create_new(path));
+        // what may be private is so from the beginning
+        let mode = if old.is_some() { 0o600 } else { 0o666 };
+        let made = Temporary::make(folder_of(real), |path| create(path, mode));
         let (new, file) = made.map_err(|error| io::Error::other(format!("its folder cannot be written: {error}")))?;
         let mut target = BufWriter::new(&file);
         write(&mut target)?;
@@ -70,10 +72,10 @@ impl<'a> Prepared<'a> {
     /// Gives the file that is there another name, so that it can be put back.
     fn keep_old(&mut self) -> io::Result<()> {
         if self.replaces {
-            let link = |path: &Path| fs::hard_link(self.real, path);
-            let copy = |path: &Path| File::create_new(path).and_then(|_| fs::copy(self.real, path)).map(drop);
-            let kept = Temporary::make(folder_of(self.real), link).or_else(|_| Temporary::make(folder_of(self.real), copy));
-            self.old = Some(kept?.0);
+            let keep =
+                |how: fn(&Path, &Path) -> io::Result<()>| Temporary::make(folder_of(self.real), |path| how(self.real, path));
+            // some file systems have no links
+            self.old = Some(keep(|real, path| fs::hard_link(real, path)).or_else(|_| keep(copy))?.0);
         }
         Ok(())
     }
@@ -89,6 +91,15 @@ impl<'a> Prepared<'a> {
             None => fs::remove_file(self.real),
         }
     }
+}
+
+fn create(path: &Path, mode: u32) -> io::Result<File> {
+    OpenOptions::new().write(true).create_new(true).mode(mode).open(path)
+}
+
+fn copy(real: &Path, path: &Path) -> io::Result<()> {
+    create(path, 0o600)?;
+    fs::copy(real, path).map(drop).inspect_err(|_| drop(fs::remove_file(path)))
 }
 
 /// The owner and the group of the file that is replaced, as far as this process may set them.

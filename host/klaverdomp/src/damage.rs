@@ -87,7 +87,7 @@ impl fmt::Display for Damage {
                 }
                 write!(
                     f,
-                    "\n  sound before that: {sizes}; {positions} positions, up to byte {used}\n  \
+                    "\n  sound before that: {sizes}, positions {positions}; up to byte {used}\n  \
                      the first {used} bytes are a whole file: in a copy that is cut there the session can be taken up"
                 )
             }

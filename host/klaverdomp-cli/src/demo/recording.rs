@@ -3,9 +3,8 @@
 use super::SessionFile;
 use crate::{say, Failure};
 use klaverdomp::{attention, explain, Buffers, Call, Inputs, Outputs};
-use klaverdomp::{Done, Refusal, SaveError, SavedSession, Session, Settings};
-use std::fs::File;
-use std::io;
+use klaverdomp::{Done, Refusal, SaveError, SaveFault, SavedSession, Session, Settings};
+use std::fs::{File, TryLockError};
 use std::path::Path;
 
 pub const POSITIONS: usize = 48;
@@ -182,10 +181,13 @@ impl Recording {
 }
 
 /// Cuts a saved session, as a stop in the middle of a save does, under the lock that all who write it take.
-fn cut_file(path: &Path, length: u64) -> io::Result<()> {
+fn cut_file(path: &Path, length: u64) -> Result<(), SaveFault> {
     let file = File::options().write(true).open(path)?;
-    file.try_lock()?;
-    file.set_len(length)
+    file.try_lock().map_err(|error| match error {
+        TryLockError::WouldBlock => SaveFault::Locked,
+        TryLockError::Error(error) => SaveFault::File(error),
+    })?;
+    Ok(file.set_len(length)?)
 }
 
 fn settings(softcap: f32) -> Settings {

@@ -76,12 +76,12 @@ fn bad_files_in_words() {
 
 #[test]
 fn other_types_in_words() {
-    let words = "holds elements of type '<f8', and '<f4' is needed; in NumPy x.astype('<f4') makes it of them";
+    let words = "holds elements of type '<f8', and '<f4' is needed; in NumPy x.astype('<f4') converts them";
     assert_eq!(other_type("'<f8'", &[Kind::F4]), words);
     assert!(other_type("'>f4'", &[Kind::F4]).starts_with("holds elements of type '>f4' (big-endian), and '<f4' is needed; "));
     assert!(other_type("'|u1'", &[Kind::F4]).contains("type '|u1', and '<f4' is needed"));
     assert!(other_type("[('x', '<f4')]", &[Kind::F4]).contains("a structured type, and '<f4' is needed"));
-    let words = "and '|b1' or '|u1' or '<f4' is needed; in NumPy x.astype(bool) or x.astype('<f4') makes it of them";
+    let words = "and '|b1' or '|u1' or '<f4' is needed; in NumPy x.astype(bool) or x.astype('<f4') converts them";
     assert!(other_type("'<i8'", &[Kind::Bytes, Kind::F4]).contains(words));
     assert!(other_type("'<i4'", &[Kind::I8]).contains("'<i8' is needed; in NumPy x.astype('<i8')"));
     assert!(error(b"PK\x03\x04 and more").contains("is an archive (.npz), and a .npy file of one tensor is needed"));
