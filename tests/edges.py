@@ -73,6 +73,7 @@ def no_right_to_write(tool):
         for path in (tool.folder, *tool.folder.iterdir()):
             os.chown(path, NOBODY, NOBODY)
         os.chown(shut / "y.npy", NOBODY, NOBODY)
+    (shut / "old.session").chmod(0o444)
     shut.chmod(0o555)
     kept.chmod(0o444)
     try:

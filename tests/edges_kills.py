@@ -73,7 +73,9 @@ def killed_at_any_moment(tool):
     width, rng, kills = 64, random.Random(5), 0
     tool.fresh(positions=1, width=width)
     words = ("attend", "--query", "q.npy", "--key", "k.npy", "--value", "v.npy", "--output", "y.npy", *CACHES)
-    while kills < 25:
+    for _ in range(300):
+        if kills == 25:
+            break
         run = subprocess.Popen([tool.program, *words], cwd=tool.folder, stdout=subprocess.PIPE, stderr=subprocess.PIPE)
         time.sleep(rng.uniform(0, 0.012))
         run.kill()
@@ -84,5 +86,6 @@ def killed_at_any_moment(tool):
         tool.expect(f"{keys} keys and {values} values", keys - values in (0, 1), True)
         if keys != values:
             tool.file("k.cache", (1, 1, values, width), [1] * values * width)
+    tool.expect("kills", kills > 0, True)
     leftover = [path for path in tool.folder.iterdir() if path.name.startswith(".klaverdomp-")]
     tool.expect("what a kill may leave", all(path.name.endswith(".tmp") for path in leftover), True)
