@@ -49,15 +49,29 @@ def between_two_renames(tool):
             tool.expect(f"the call after a kill at rename {at}: {err}", status, 0)
     for at in range(1, 5):
         tool.fresh()
-        stop = {"LD_PRELOAD": str(made), "RENAME_AT": str(at), "RENAME_HOW": "fail"}
+        stop = {"LD_PRELOAD": str(made), "RENAME_AT": str(at), "RENAME_HOW": "once"}
         option = ("--output", "--scores", "--present-key", "--present-value")[at - 1]
         fault = f"{option} {order[at - 1]}: Device or resource busy"
         tool.nothing(f"rename {at} fails", fault, *words, env={**os.environ, **stop})
         tool.nothing(f"rename {at} fails, and there are no links", fault, *words, env={**os.environ, **stop, "NO_LINKS": "1"})
         for name in order[:at]:
             (tool.folder / name).unlink()
-        words_without_past = ("--output", "y.npy", *SCORES, *CACHES[4:])
-        tool.nothing(f"rename {at} fails where no file was", fault, *words_without_past, env={**os.environ, **stop})
+        without_past = ("--output", "y.npy", *SCORES, *CACHES[4:])
+        tool.nothing(f"rename {at} fails where no file was", fault, *without_past, env={**os.environ, **stop})
+    not_put_back(tool, made, words)
+
+
+def not_put_back(tool, made, words):
+    """A rename that fails, and the one that would put back the file before it: what was there is kept under another name."""
+    old = tool.fresh()
+    stop = {"LD_PRELOAD": str(made), "RENAME_AT": "2", "RENAME_HOW": "from"}
+    status, err, _ = tool.call(*words, env={**os.environ, **stop})
+    told = "--output y.npy is written, and what was there could not be put back: Device or" in err and "it is kept beside it" in err
+    tool.expect(f"not put back: {err}", (status, told), (2, True))
+    found = tool.files()
+    kept = [found.pop(name) for name in list(found) if name.endswith(".tmp")]
+    tool.expect("what is kept", (kept, found.pop("y.npy") != old["y.npy"]), ([old.pop("y.npy")], True))
+    tool.expect("the other files", found == old, True)
 
 
 def positions(path):

@@ -1,5 +1,5 @@
-/* Loaded before the C library by tests/edges_kills.py: the RENAME_AT-th rename of the process kills it (RENAME_HOW kill) or fails (any
- * other word), before it is done. With NO_LINKS every hard link fails, as on a file system that has none. */
+/* Loaded before the C library by tests/edges_kills.py: the RENAME_AT-th rename of the process kills it (RENAME_HOW kill), fails (once), or
+ * fails and all later ones too (from), before it is done. With NO_LINKS every hard link fails, as on a file system that has none. */
 #define _GNU_SOURCE
 #include <dlfcn.h>
 #include <errno.h>
@@ -23,11 +23,14 @@ int rename(const char *from, const char *to)
     static int count;
     int (*next)(const char *, const char *);
     const char *at = getenv("RENAME_AT"), *how = getenv("RENAME_HOW");
-    if (at != NULL && how != NULL && ++count == atoi(at)) {
-        if (strcmp(how, "kill") == 0)
+    if (at != NULL && how != NULL) {
+        count++;
+        if (count == atoi(at) && strcmp(how, "kill") == 0)
             raise(SIGKILL);
-        errno = EBUSY;
-        return -1;
+        if (count == atoi(at) || (count > atoi(at) && strcmp(how, "from") == 0)) {
+            errno = EBUSY;
+            return -1;
+        }
     }
     *(void **)&next = dlsym(RTLD_NEXT, "rename");
     return next(from, to);

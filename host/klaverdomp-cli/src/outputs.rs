@@ -2,6 +2,7 @@
 
 use crate::prepared::{put_in_place, Prepared};
 use crate::Failure;
+use std::ffi::OsString;
 use std::fs::{self, File, Metadata, OpenOptions};
 use std::io::{self, BufWriter, Write};
 use std::os::fd::AsFd;
@@ -14,8 +15,16 @@ use std::path::{Path, PathBuf};
 pub enum Identity {
     /// Device and inode of one that is there.
     There(u64, u64),
-    /// Folder and name of one that is not there yet.
-    New(PathBuf),
+    /// Device and inode of the folder, and the name in it, of one that is not there yet.
+    New(u64, u64, OsString),
+}
+
+impl Identity {
+    /// That of a file that is not there yet, by where it will stand.
+    fn of_new(real: &Path) -> io::Result<Identity> {
+        let folder = fs::metadata(real.parent().unwrap_or(real))?;
+        Ok(Identity::New(folder.dev(), folder.ino(), real.file_name().unwrap_or_default().to_os_string()))
+    }
 }
 
 /// Where an output goes.
@@ -47,7 +56,7 @@ impl Output {
         let found = match fs::metadata(path) {
             Ok(there) => of_what_is_there(path, there),
             Err(error) if error.kind() == io::ErrorKind::NotFound => {
-                new_place(path).map(|real| (Identity::New(real.clone()), Place::File(real, None)))
+                new_place(path).and_then(|real| Ok((Identity::of_new(&real)?, Place::File(real, None))))
             }
             Err(error) => Err(error),
         };
@@ -115,7 +124,7 @@ fn new_place(path: &Path) -> io::Result<PathBuf> {
 pub fn identity(path: &Path) -> io::Result<Identity> {
     match fs::metadata(path) {
         Ok(there) => Ok(Identity::There(there.dev(), there.ino())),
-        Err(_) => new_place(path).map(Identity::New),
+        Err(_) => Identity::of_new(&new_place(path)?),
     }
 }
 

@@ -9,23 +9,34 @@ use std::path::{Path, PathBuf};
 use std::process;
 
 /// A file of this process's own, which is removed with this.
-struct Temporary(PathBuf);
+struct Temporary {
+    path: PathBuf,
+    /// Whether it is still here, and not in a place of its own.
+    here: bool,
+}
 
 impl Drop for Temporary {
     fn drop(&mut self) {
-        // it has its place now, or is of no use
-        let _ = fs::remove_file(&self.0);
+        if self.here {
+            let _ = fs::remove_file(&self.path);
+        }
     }
 }
 
 impl Temporary {
+    fn rename(&mut self, to: &Path) -> io::Result<()> {
+        fs::rename(&self.path, to)?;
+        self.here = false;
+        Ok(())
+    }
+
     /// Makes one in the folder under a name that nothing has.
     fn make<T>(folder: &Path, make: impl Fn(&Path) -> io::Result<T>) -> io::Result<(Temporary, T)> {
         let mut n = 0;
         loop {
             let path = folder.join(format!(".klaverdomp-{}-{n}.tmp", process::id()));
             match make(&path) {
-                Ok(made) => return Ok((Temporary(path), made)),
+                Ok(made) => return Ok((Temporary { path, here: true }, made)),
                 Err(error) if error.kind() == io::ErrorKind::AlreadyExists && n < 10_000 => n += 1,
                 Err(error) => return Err(error),
             }
@@ -80,14 +91,10 @@ impl<'a> Prepared<'a> {
         Ok(())
     }
 
-    fn put_in_place(&self) -> io::Result<()> {
-        fs::rename(&self.new.0, self.real)
-    }
-
-    /// What was there is there again.
-    fn put_back(&self) -> io::Result<()> {
-        match &self.old {
-            Some(old) => fs::rename(&old.0, self.real),
+    /// What was there is there again, or else it is left under its other name.
+    fn put_back(&mut self) -> io::Result<()> {
+        match &mut self.old {
+            Some(old) => old.rename(self.real).inspect_err(|_| old.here = false),
             None => fs::remove_file(self.real),
         }
     }
@@ -119,29 +126,47 @@ pub fn put_in_place(mut prepared: Vec<Prepared>) -> Result<(), Failure> {
     for one in &mut prepared[..but_last] {
         one.keep_old().map_err(|error| one.output.failed(error))?;
     }
-    for (n, one) in prepared.iter().enumerate() {
-        if let Err(error) = one.put_in_place() {
-            let mut words = error.to_string();
-            for before in prepared[..n].iter().rev() {
-                if let Err(error) = before.put_back() {
-                    let (option, path) = (before.output.option, before.output.path.display());
-                    words.push_str(&format!("\n  and {option} {path} is written, and could not be put back: {error}"));
-                }
-            }
-            return Err(one.output.failed(words));
+    for n in 0..prepared.len() {
+        let (before, rest) = prepared.split_at_mut(n);
+        let one = &mut rest[0];
+        if let Err(error) = one.new.rename(one.real) {
+            return Err(one.output.failed(format!("{error}{}", put_back(before))));
         }
     }
-    prepared.iter().try_for_each(|one| sync_folder(one.real).map_err(|error| one.output.failed(error)))
+    sync_folders(&prepared)
 }
 
-/// Brings the entry of a file in its folder to the disk, where the folder may be read and the file system can do that.
-fn sync_folder(real: &Path) -> io::Result<()> {
-    let Ok(folder) = File::open(folder_of(real)) else {
-        return Ok(());
-    };
-    match folder.sync_all() {
-        Err(error) if matches!(error.kind(), io::ErrorKind::InvalidInput | io::ErrorKind::Unsupported) => Ok(()),
-        Err(error) => Err(io::Error::other(format!("is written, but its folder cannot be brought to the disk: {error}"))),
-        Ok(()) => Ok(()),
+/// Takes back those that are in their places; in words what could not be.
+fn put_back(prepared: &mut [Prepared]) -> String {
+    let mut words = String::new();
+    for one in prepared.iter_mut().rev() {
+        if let Err(error) = one.put_back() {
+            let (option, path) = (one.output.option, one.output.path.display());
+            words.push_str(&format!("\n  {option} {path} is written, and what was there could not be put back: {error}"));
+            if one.old.is_some() {
+                words.push_str("\n  it is kept beside it, in a file named .klaverdomp-*.tmp");
+            }
+        }
     }
+    words
+}
+
+/// Brings the entries of the files in their folders to the disk, where a folder may be read and the file system can do that.
+fn sync_folders(prepared: &[Prepared]) -> Result<(), Failure> {
+    let mut synced: Vec<&Path> = Vec::new();
+    for one in prepared {
+        let folder = folder_of(one.real);
+        if synced.contains(&folder) {
+            continue;
+        }
+        synced.push(folder);
+        match File::open(folder).map(|folder| folder.sync_all().err()) {
+            Ok(Some(error)) if !matches!(error.kind(), io::ErrorKind::InvalidInput | io::ErrorKind::Unsupported) => {
+                let words = format!("is written, but its folder cannot be brought to the disk: {error}");
+                return Err(one.output.failed(words));
+            }
+            _ => {}
+        }
+    }
+    Ok(())
 }
