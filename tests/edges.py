@@ -223,6 +223,9 @@ def demonstrations(tool):
     status, err, _ = tool.started("demo", "--force")
     words = "klaverdomp: the saved session beside the default of --output: is a folder"
     tool.expect(f"the default: {err}", (status, err.startswith(words)), (2, True))
+    (tool.folder / "klaverdomp-demo.svg").unlink()
+    (tool.folder / "klaverdomp-demo.svg").mkdir()
+    tool.expect("the default picture", tool.started("demo")[:2], (2, "klaverdomp: the default of --output: is a folder\n"))
     status, err, _ = tool.started("demo", "--output", "one", "--session", "./one")
     words = "klaverdomp: --output one and --session ./one are one file\n"
     tool.expect(f"one file for both: {err}", (status, err.startswith(words)), (2, True))

@@ -10,7 +10,6 @@ use files::Files;
 use klaverdomp::{attention, check, explain, Buffers, Call, Refusal};
 use std::ffi::OsString;
 use std::io::{self, Write};
-use std::path::Path;
 
 pub const HELP: &str = "\
 klaverdomp attend - one attention call on .npy files
@@ -102,8 +101,8 @@ fn outputs(args: &Args) -> Result<Outputs, Failure> {
     if args.path("--mode").is_some() != args.path("--scores").is_some() {
         return Err(usage("--mode and --scores go together"));
     }
-    let named: Vec<(&'static str, &Path)> = WRITTEN.iter().filter_map(|name| Some((*name, args.path(name)?))).collect();
-    Outputs::find("attend", &named)
+    let named = |option: &'static str| args.path(option).map(|path| (option, format!("{option} {}", path.display()), path));
+    Outputs::find("attend", WRITTEN.into_iter().filter_map(named))
 }
 
 /// Writes the files that are named.

@@ -11,7 +11,7 @@ use std::ffi::OsString;
 use std::fmt::Display;
 use std::fs::File;
 use std::io;
-use std::path::{Path, PathBuf};
+use std::path::PathBuf;
 
 pub const HELP: &str = "\
 klaverdomp demo - a small recording, whole, in chunks, and saved and taken up
@@ -34,17 +34,17 @@ Exit status: 0 all bits agree; 1 some do not, or the cap is refused; 2 bad usage
 
 /// The files of the demonstration.
 struct Files {
-    picture: PathBuf,
-    session: SessionFile,
+    picture: NamedFile,
+    session: NamedFile,
 }
 
-/// The file of the saved session, and how an error names it: by words of the command line alone.
-struct SessionFile {
+/// A file, and how an error names it: by words of the command line alone.
+struct NamedFile {
     path: PathBuf,
     name: String,
 }
 
-impl SessionFile {
+impl NamedFile {
     fn failed(&self, words: impl Display) -> Failure {
         Failure::File(format!("{}: {words}", self.name))
     }
@@ -67,18 +67,17 @@ fn usage(words: String) -> Failure {
 
 impl Files {
     fn named(args: &Args) -> Result<Files, Failure> {
-        let (output, session) = (args.path("--output"), args.path("--session"));
-        let picture = output.unwrap_or(Path::new("klaverdomp-demo.svg")).to_path_buf();
-        let picture_name = output.map_or("the default of --output".to_string(), |path| format!("--output {}", path.display()));
-        let session = match session {
-            Some(path) => SessionFile { path: path.to_path_buf(), name: format!("--session {}", path.display()) },
-            None => {
-                let name = format!("the saved session beside {picture_name}");
-                SessionFile { path: picture.with_extension("session"), name }
-            }
+        let named = |option: &str| {
+            args.path(option).map(|path| NamedFile { path: path.to_path_buf(), name: format!("{option} {}", path.display()) })
         };
-        if identity(&picture).is_ok_and(|picture| identity(&session.path).is_ok_and(|session| session == picture)) {
-            return Err(usage(format!("{picture_name} and {} are one file", session.name)));
+        let default = || NamedFile { path: "klaverdomp-demo.svg".into(), name: "the default of --output".to_string() };
+        let picture = named("--output").unwrap_or_else(default);
+        let session = named("--session").unwrap_or_else(|| NamedFile {
+            path: picture.path.with_extension("session"),
+            name: format!("the saved session beside {}", picture.name),
+        });
+        if identity(&picture.path).is_ok_and(|picture| identity(&session.path).is_ok_and(|session| session == picture)) {
+            return Err(usage(format!("{} and {} are one file", picture.name, session.name)));
         }
         Ok(Files { picture, session })
     }
@@ -92,7 +91,7 @@ pub fn run(words: Vec<OsString>) -> Result<(), Failure> {
     }
     let softcap: f32 = args.number("--softcap", "a number").map_err(usage)?.unwrap_or(2.0);
     let Files { picture, session } = Files::named(&args)?;
-    let outputs = Outputs::find("demo", &[("--output", &picture)])?;
+    let outputs = Outputs::find("demo", [("--output", picture.name, picture.path.as_path())])?;
 
     let recording = Recording::make();
     let caps = if softcap == 0.0 { vec![0.0] } else { vec![0.0, softcap] };
@@ -113,7 +112,7 @@ pub fn run(words: Vec<OsString>) -> Result<(), Failure> {
     say(&format!("The saved session: {}\n", session.path.display()))?;
     let svg = draw(&wholes, head);
     outputs.write(|_, target| target.write_all(svg.as_bytes()))?;
-    say(&format!("The weights of query head {head}: {}\n", picture.display()))?;
+    say(&format!("The weights of query head {head}: {}\n", picture.path.display()))?;
     match same {
         true => Ok(()),
         false => Err(Failure::Differs("the chunks and the plain call differ in some bits".to_string())),

@@ -3,6 +3,7 @@
 use crate::prepared::{put_in_place, Prepared};
 use crate::Failure;
 use std::ffi::OsString;
+use std::fmt::Display;
 use std::fs::{self, File, Metadata, OpenOptions};
 use std::io::{self, BufWriter, Write};
 use std::os::fd::AsFd;
@@ -38,12 +39,15 @@ pub enum Place {
     Stdout,
 }
 
-/// A file to be written, and the option that names it.
+/// A file to be written.
 #[derive(Debug)]
 pub struct Output {
-    pub option: &'static str,
-    pub path: PathBuf,
-    pub place: Place,
+    /// The option that names it.
+    option: &'static str,
+    path: PathBuf,
+    /// The option and the file, as an error has them.
+    pub name: String,
+    place: Place,
     identity: Identity,
 }
 
@@ -52,7 +56,7 @@ pub struct Output {
 pub struct Outputs(Vec<Output>);
 
 impl Output {
-    fn find(option: &'static str, path: &Path) -> Result<Output, Failure> {
+    fn find(option: &'static str, name: String, path: &Path) -> Result<Output, Failure> {
         let found = match fs::metadata(path) {
             Ok(there) => of_what_is_there(path, there),
             Err(error) if error.kind() == io::ErrorKind::NotFound => {
@@ -60,22 +64,13 @@ impl Output {
             }
             Err(error) => Err(error),
         };
-        let (identity, place) = found.map_err(|error| failure(option, path, error))?;
-        Ok(Output { option, path: path.to_path_buf(), place, identity })
+        let (identity, place) = found.map_err(|error| Failure::File(format!("{name}: {error}")))?;
+        Ok(Output { option, path: path.to_path_buf(), name, place, identity })
     }
 
-    /// The option and the file in words.
-    fn name(&self) -> String {
-        format!("{} {}", self.option, self.path.display())
+    pub fn failed(&self, error: impl Display) -> Failure {
+        Failure::File(format!("{}: {error}", self.name))
     }
-
-    pub fn failed(&self, error: impl std::fmt::Display) -> Failure {
-        failure(self.option, &self.path, error)
-    }
-}
-
-fn failure(option: &str, path: &Path, error: impl std::fmt::Display) -> Failure {
-    Failure::File(format!("{option} {}: {error}", path.display()))
 }
 
 fn of_what_is_there(path: &Path, there: Metadata) -> io::Result<(Identity, Place)> {
@@ -90,7 +85,7 @@ fn of_what_is_there(path: &Path, there: Metadata) -> io::Result<(Identity, Place
         return Ok((identity, Place::Direct));
     }
     // a file that may not be written is not replaced either
-    OpenOptions::new().write(true).open(path)?;
+    let there = OpenOptions::new().write(true).open(path)?.metadata()?;
     match fs::canonicalize(path).and_then(|real| Ok((fs::metadata(&real)?, real))) {
         Ok((real, at)) if (real.dev(), real.ino()) == (there.dev(), there.ino()) => Ok((identity, Place::File(at, Some(there)))),
         // an open file that stands in no folder
@@ -129,13 +124,16 @@ pub fn identity(path: &Path) -> io::Result<Identity> {
 }
 
 impl Outputs {
-    /// Finds where the files go, before anything is done. Each is another file.
-    pub fn find(command: &'static str, named: &[(&'static str, &Path)]) -> Result<Outputs, Failure> {
+    /// Finds where the files go, before anything is done: each by its option, what an error calls it, and its path. Each is another file.
+    pub fn find<'a>(
+        command: &'static str,
+        named: impl IntoIterator<Item = (&'static str, String, &'a Path)>,
+    ) -> Result<Outputs, Failure> {
         let mut outputs: Vec<Output> = Vec::new();
-        for (option, path) in named {
-            let output = Output::find(option, path)?;
+        for (option, name, path) in named {
+            let output = Output::find(option, name, path)?;
             if let Some(same) = outputs.iter().find(|other| other.identity == output.identity) {
-                return Err(Failure::Usage(format!("{} and {} are one file", same.name(), output.name()), command));
+                return Err(Failure::Usage(format!("{} and {} are one file", same.name, output.name), command));
             }
             outputs.push(output);
         }
@@ -160,7 +158,9 @@ impl Outputs {
         for output in &self.0 {
             let written = match output.place {
                 Place::File(..) => Ok(()),
-                Place::Direct => OpenOptions::new().write(true).open(&output.path).and_then(|file| fill(file, output, &content)),
+                Place::Direct => {
+                    OpenOptions::new().write(true).truncate(true).open(&output.path).and_then(|file| fill(file, output, &content))
+                }
                 Place::Stdout => fill(io::stdout().lock(), output, &content),
             };
             written.map_err(|error| output.failed(error))?;

@@ -141,8 +141,7 @@ fn put_back(prepared: &mut [Prepared]) -> String {
     let mut words = String::new();
     for one in prepared.iter_mut().rev() {
         if let Err(error) = one.put_back() {
-            let (option, path) = (one.output.option, one.output.path.display());
-            words.push_str(&format!("\n  {option} {path} is written, and what was there could not be put back: {error}"));
+            words.push_str(&format!("\n  {} is written, and what was there could not be put back: {error}", one.output.name));
             if one.old.is_some() {
                 words.push_str("\n  it is kept beside it, in a file named .klaverdomp-*.tmp");
             }

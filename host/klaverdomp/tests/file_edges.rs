@@ -239,7 +239,7 @@ fn damage_in_words() {
             sound(2048, 28686),
         ),
         (changed(6, &[9]), "refusal 1: the first record has sizes outside their limits: batch 9 (1 to 8), key", "nothing".into()),
-        (changed(12, &[1, 1]), "value head size 257 (1 to 256)", "nothing before that is sound".into()),
+        (changed(12, &[1, 1]), "value head size 257 (1 to 256)", "nothing before that is sound: only another copy".into()),
         (Vec::new(), "refusal 11: the file is empty", "begins it".into()),
         (file(0)[..13].to_vec(), "refusal 11: the first record is cut after 13 of 14 bytes", "begins it anew".into()),
         (b"PK\x03\x04 and more bytes".to_vec(), "refusal 11: not a saved session: ", "is it the right file?".into()),

@@ -91,12 +91,13 @@ impl Files {
         let heads = |name| args.number::<u64>(name, "a whole number").map_err(usage);
         let shape = match self.query.shape().len() {
             4 if heads("--q-heads")?.is_some() || heads("--kv-heads")?.is_some() => {
-                return Err(usage("--q-heads and --kv-heads are for tensors of 3 dimensions; with 4 the shapes give them"))
+                let words = "--q-heads and --kv-heads are for tensors of 3 dimensions; with 4 the shapes give them";
+                return Err(usage(format!("{words}, and {}", self.query.with_shape())));
             }
             4 => self.rank_four()?,
             3 => match (heads("--q-heads")?, heads("--kv-heads")?) {
                 (Some(q_heads), Some(kv_heads)) => self.rank_three(q_heads, kv_heads)?,
-                _ => return Err(usage("tensors of 3 dimensions need --q-heads and --kv-heads")),
+                _ => return Err(usage(format!("{}: 3 dimensions need --q-heads and --kv-heads", self.query.with_shape()))),
             },
             _ => return Err(self.query.misfit("3 or 4 dimensions are needed")),
         };

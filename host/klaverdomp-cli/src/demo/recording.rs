@@ -1,6 +1,6 @@
 // The recording of the demonstration: made by a fixed rule, and attended to whole, in chunks, and saved and taken up.
 
-use super::SessionFile;
+use super::NamedFile;
 use crate::{say, Failure};
 use klaverdomp::{attention, explain, Buffers, Call, Inputs, Outputs};
 use klaverdomp::{Done, Refusal, SaveError, SaveFault, SavedSession, Session, Settings};
@@ -106,7 +106,7 @@ impl Recording {
 
     /// Says for each way to cut the recording, and for a saved session, how many outputs have the bits of the whole call; whether all
     /// do, and the caches too.
-    pub fn compare(&self, whole: &Whole, file: &SessionFile) -> Result<bool, Failure> {
+    pub fn compare(&self, whole: &Whole, file: &NamedFile) -> Result<bool, Failure> {
         let expected = &whole.buffers.output;
         let mut all = Vec::new();
         for (name, chunks) in cuts() {
@@ -136,7 +136,7 @@ impl Recording {
 
     /// The same of a session that is saved after every chunk of 5, and after 25 positions is stopped in the middle of a save and taken
     /// up from its file, which is written anew.
-    fn saved(&self, softcap: f32, file: &SessionFile) -> Result<(Vec<f32>, bool), Failure> {
+    fn saved(&self, softcap: f32, file: &NamedFile) -> Result<(Vec<f32>, bool), Failure> {
         let failed = |error: SaveError| file.failed(error.fault);
         let settings = settings(softcap);
         let mut outputs = vec![0.0; self.query.len()];
@@ -236,7 +236,7 @@ mod tests {
                 assert!(same_bits(&outputs, &whole.buffers.output) && caches);
             }
             let path = std::env::temp_dir().join(format!("klaverdomp-demo-{}", std::process::id()));
-            let file = SessionFile { path: path.clone(), name: String::new() };
+            let file = NamedFile { path: path.clone(), name: String::new() };
             let (outputs, caches) = recording.saved(softcap, &file).ok().unwrap();
             assert!(same_bits(&outputs, &whole.buffers.output) && caches);
             assert_eq!(fs::read(&path).unwrap().len(), settings(softcap).sizes().file_len(POSITIONS as u64));
