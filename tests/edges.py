@@ -19,9 +19,9 @@ import threading
 import time
 from pathlib import Path
 
-from command_line import npy, read
 from edges_kills import between_two_renames, killed_at_any_moment
 from edges_tool import CACHES, Edges
+from tool import npy, read
 
 NOBODY = 65534
 

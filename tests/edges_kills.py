@@ -8,8 +8,8 @@ import subprocess
 import time
 from pathlib import Path
 
-from command_line import size
 from edges_tool import CACHES, SCORES
+from tool import size
 
 
 def shim(tool):

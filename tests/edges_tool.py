@@ -4,7 +4,7 @@ import shutil
 import stat
 import subprocess
 
-from command_line import Tool, qkv
+from tool import Tool, qkv
 
 # a call that writes over its own past, and one that shows scores
 CACHES = ("--past-key", "k.cache", "--past-value", "v.cache", "--present-key", "k.cache", "--present-value", "v.cache")

@@ -94,7 +94,8 @@ impl fmt::Display for Damage {
             (None, _, First::Sizes([batches, kv_heads, size, v_size])) => write!(
                 f,
                 "refusal 1: the first record has sizes outside their limits: batch {batches} (1 to 8), key heads {kv_heads} (1 to 32), \
-                 head size {size} and value head size {v_size} (1 to 256)\n  nothing before that is sound: only another copy of the file helps"
+                 head size {size} and value head size {v_size} (1 to 256)\n  \
+                 nothing before that is sound: only another copy of the file helps"
             ),
             (None, _, First::Cut(0)) => f.write_str(
                 "refusal 11: the file is empty\n  no position was saved in it: a session that is opened to be saved here begins it",

@@ -227,7 +227,8 @@ fn damage_in_words() {
         file
     };
     let sound = |positions: u64, used: usize| {
-        format!("\n  sound before that: batch 1, key heads 1, head size 1, value head size 1, positions {positions}; up to byte {used}\n  the first {used} bytes are a whole file: ")
+        let sizes = "batch 1, key heads 1, head size 1, value head size 1";
+        format!("\n  sound before that: {sizes}, positions {positions}; up to byte {used}\n  the first {used} bytes are a whole file: ")
     };
     let damaged = [
         (changed(46, &[3]), "refusal 11: byte 42: the record that begins there is of the wrong kind or length", sound(2, 42)),
