@@ -1,5 +1,9 @@
 /* A causal prefill and then cached steps of one position, as a decoder calls attention. Every output row has the bits of the same row of
  * one plain call over all positions. At the end a step with a NaN is refused and leaves its tensors as they were.
+ *
+ *   gcc -std=c99 -O2 -Iinclude -o prefill_and_steps examples/prefill_and_steps.c target/staticlib/libklaverdomp.a
+ *   ./prefill_and_steps
+ *
  * The status is 0 exactly where all of that holds. */
 #include <math.h>
 #include <stdio.h>

@@ -1,12 +1,18 @@
 /* A session that is saved and taken up again. A first run saves every position after its step, as a box does, and is switched off in the
- * middle of the eighth record; a second run reads the file, goes on behind its last whole position and writes over the cut record. Every
- * output row has the bits of the same row of one plain call over all positions, and the file ends with all of them.
+ * middle of the eighth record; a second run reads the file, goes on behind its last whole position and writes over the cut record. Once a
+ * row that is no number is refused: the file stays as it was, and the next position is saved behind the same byte. Every output row has the
+ * bits of the same row of one plain call over all positions, and the file ends with all of them.
  *
- *   saved_session [FILE]     (default saved_session.klaverdomp; it is written anew)
+ *   gcc -std=c99 -O2 -Iinclude -o saved_session examples/saved_session.c target/staticlib/libklaverdomp.a
+ *   ./saved_session [FILE]     (default saved_session.klaverdomp; it is written anew)
  *
  * The status is 0 exactly where all of that holds. */
+#define _POSIX_C_SOURCE 200809L
+#include <math.h>
 #include <stdio.h>
 #include <string.h>
+#include <sys/file.h>
+#include <unistd.h>
 
 #include "klaverdomp.h"
 
@@ -112,16 +118,33 @@ static int step(session *s)
     return memcmp(output, expected[past], sizeof output) == 0;
 }
 
-/* Adds the last position to the file's bytes. */
+/* Adds a position to the file's bytes. Where that is refused, used is what it was: the file is still what stands before it. */
+static klaverdomp_session_saving add(session *s, const float *key_row, const float *value_row)
+{
+    klaverdomp_session_saving saving =
+        klaverdomp_session_append(s->file, FILE_LEN, s->used, 1, key_row, KEY_LEN, value_row, VALUE_LEN);
+    s->used = saving.used;
+    return saving;
+}
+
+/* Adds the last position. */
 static int save(session *s)
 {
     const size_t last = s->positions - 1;
-    klaverdomp_session_saving saving =
-        klaverdomp_session_append(s->file, FILE_LEN, s->used, 1, key[last], KEY_LEN, value[last], VALUE_LEN);
+    const klaverdomp_session_saving saving = add(s, key[last], value[last]);
     printf("position %2u: %s, %u saved in %u bytes\n", (unsigned)last, klaverdomp_refusal_text(saving.refusal),
            (unsigned)saving.positions, (unsigned)saving.used);
-    s->used = saving.used;
     return saving.refusal == KLAVERDOMP_DONE && saving.positions == s->positions;
+}
+
+/* Tries to add a row that is no number. Whether it is refused and the session can go on. */
+static int refused(session *s)
+{
+    static const float no_numbers[KEY_LEN] = { NAN };
+    const uint64_t used = s->used;
+    const klaverdomp_session_saving saving = add(s, no_numbers, value[0]);
+    printf("a bad row:   %s; still %u bytes\n", klaverdomp_refusal_text(saving.refusal), (unsigned)saving.used);
+    return saving.refusal == KLAVERDOMP_ELEMENT && s->used == used;
 }
 
 /* Takes up what the first `len` bytes of the file hold, however it is cut. */
@@ -140,11 +163,15 @@ static int take_up(session *s, size_t len)
     return r.refusal == KLAVERDOMP_DONE;
 }
 
-/* The first bytes of the session's file, written to a file of that name. */
+/* The first bytes of the session's file, written to a file of that name under the lock that the Rust crate takes too. The file is not
+ * opened with "wb", which would empty it before it is locked. */
 static int write_file(const char *name, const session *s, size_t len)
 {
-    FILE *out = fopen(name, "wb");
-    int good = out != NULL && fwrite(s->file, 1, len, out) == len;
+    FILE *out = fopen(name, "ab");
+    int locked = out != NULL && flock(fileno(out), LOCK_EX | LOCK_NB) == 0;
+    int good = locked && ftruncate(fileno(out), 0) == 0 && fwrite(s->file, 1, len, out) == len;
+    if (!locked)
+        printf("%s: it cannot be opened, or another session has it open to save in it\n", name);
     return (out == NULL || fclose(out) == 0) && good;
 }
 
@@ -170,10 +197,10 @@ int main(int argc, char **argv)
     first.used = klaverdomp_session_begin(first.file, FILE_LEN, 1, KEY_HEADS, SIZE, VALUE_SIZE).used;
     while (good && first.positions < SAVED + 1)
         good = step(&first) && save(&first);
-    good = good && write_file(name, &first, first.used - RECORD_LEN / 2);
+    good = good && refused(&first) && write_file(name, &first, first.used - RECORD_LEN / 2);
     printf("switched off in the middle of a record\n");
 
-    good = good && take_up(&second, read_file(name, &second)) && second.positions == SAVED;
+    good = good && take_up(&second, read_file(name, &second)) && second.positions == SAVED && refused(&second);
     while (good && second.positions < POSITIONS)
         good = step(&second) && save(&second);
     good = good && second.used == FILE_LEN && write_file(name, &second, FILE_LEN);

@@ -230,7 +230,10 @@ typedef struct klaverdomp_answer {
  *   08000000 0100 0100 0100 0100 0100   08000000 0200 0000803F 00000040
  *
  * A file that is cut after any byte behind the first record has exactly the positions that are whole in it. A cut record is one of which
- * fewer than six bytes are there, whatever they hold, or the right head and not the whole payload, whose elements are not looked at. */
+ * fewer than six bytes are there, whatever they hold, or the right head and not the whole payload, whose elements are not looked at.
+ *
+ * The library knows nothing of files on a disk. Who writes one holds flock(LOCK_EX) on it, as the Rust crate and the command line tool do,
+ * so that no two write it at a time. */
 enum {
     KLAVERDOMP_SESSION_FIRST_BYTES = 14, /* the first record */
     KLAVERDOMP_SESSION_HEAD_BYTES = 6    /* length and kind of a record */
@@ -248,12 +251,13 @@ typedef struct klaverdomp_session_reading {
     uint64_t used;       /* the byte behind the last whole record; a cut record begins there */
 } klaverdomp_session_reading;
 
-/* What a buffer holds after a begin or an append. The numbers behind place are 0 where it is refused. */
+/* What a buffer holds after a begin or an append. Where it is refused positions is 0, and used is what the append was lent, or 0 of a
+ * begin: so `saved = klaverdomp_session_append(.., saved.used, ..)` goes on with the same file after a refusal too. */
 typedef struct klaverdomp_session_saving {
     uint32_t refusal;   /* KLAVERDOMP_DONE, or the number of the refusal */
     uint64_t place;     /* refusal 9: the position at fault, counted as in the file; refusal 11: as in a reading; else 0 */
     uint64_t positions; /* how many stand whole in the buffer: these are saved */
-    uint64_t used;      /* the byte behind the last of them: the file is what stands before it */
+    uint64_t used;      /* the byte behind the last of them: the file is what stands before it; the lent one where an append is refused */
 } klaverdomp_session_saving;
 
 /* ---- the functions of the library ---- */
@@ -297,7 +301,7 @@ uint32_t klaverdomp_step_3(
     float *work, size_t work_len,
     uint64_t *tensor, uint64_t *index, uint64_t *total, uint64_t *masked_rows);
 
-/* Every number of an answer is written, whatever it is. */
+/* Every number of an answer is written, whatever it is. Those behind place are 0 where it is refused, also used_after of an append. */
 
 uint32_t klaverdomp_session_inspect_1(
     const uint8_t *file, size_t file_len,
@@ -403,7 +407,10 @@ static inline klaverdomp_answer klaverdomp_step(const klaverdomp_call *call, con
  *
  * The fault that comes first in byte order is the refusal: 11 for a first record that is missing, cut or of a wrong head, at byte 0, and
  * for a whole head of wrong kind or length, at the byte where that record begins; 1 for sizes out of their limits and for the right head
- * of a 2,049th position; 9 for an element of a whole record. */
+ * of a 2,049th position; 9 for an element of a whole record.
+ *
+ * What stands before the fault is sound: the first `place` bytes of a file that is refusal 11 behind byte 0 are a file by themselves, and so
+ * are those of the first `place` positions at refusal 9. The first 14 bytes alone tell the sizes, and whether refusal 1 is for them. */
 static inline klaverdomp_session_reading klaverdomp_session_inspect(const uint8_t *file, size_t file_len)
 {
     const uint8_t no_byte = 0;
@@ -449,7 +456,14 @@ static inline klaverdomp_session_saving klaverdomp_session_begin(
  *
  * The refusals, in this order: 16 where `used` is beyond the buffer; that of the file as klaverdomp_session_inspect gives it; 1 for more
  * than 2,048 positions in all; 5 where keys or values have another length; 9 for an element of theirs, with the least position at fault;
- * 16 where the buffer ends before the last of the records to be written does. */
+ * 16 where the buffer ends before the last of the records to be written does. A refused append leaves the file as it was, and answers the
+ * `used` that it was lent.
+ *
+ * What it costs: any bytes may stand in the buffer, so every append reads the whole file in it, each element too. Adding n positions one
+ * at a time to one buffer reads about n * n / 2 records. Where the file is on a disk there is a cheaper way, since a record does not depend
+ * on what stands before it: keep a buffer of 14 + count * (6 + 4 * B * Hkv * (D + Dv)) bytes, begin a file of the same sizes there, add the
+ * new positions to it, and write its bytes behind the first 14 to the place on the disk where the last whole record ends. Then the caller
+ * sees to it that there are at most 2,048 in all. `SavedSession` of the Rust crate in host/klaverdomp does that. */
 static inline klaverdomp_session_saving klaverdomp_session_append(
     uint8_t *buffer, size_t buffer_len, uint64_t used, uint64_t count,
     const float *keys, size_t keys_len, const float *values, size_t values_len)
@@ -463,6 +477,8 @@ static inline klaverdomp_session_saving klaverdomp_session_append(
         keys ? keys : &no_float, keys ? keys_len : 0,
         values ? values : &no_float, values ? values_len : 0,
         &s.positions, &s.used, &s.place);
+    if (s.refusal != KLAVERDOMP_DONE)
+        s.used = used;
     return s;
 }
 

@@ -6,87 +6,13 @@ Writes and reads .npy files by itself, from their format, and writes saved sessi
 """
 
 import random
-import struct
 import subprocess
 import sys
 import tempfile
-import xml.etree.ElementTree
 from pathlib import Path
 
-AGREE = "3072 of 3072 outputs have the same bits, the caches too"
-FORMATS = {"<f4": "f", "<i8": "q", "|b1": "B", "|u1": "B", "<f8": "d"}
-
-
-def size(shape):
-    product = 1
-    for dim in shape:
-        product *= dim
-    return product
-
-
-def npy(shape, elements, descr="<f4", version=1, order="False"):
-    """The bytes of a .npy file."""
-    assert len(elements) == size(shape)
-    header = f"{{'descr': '{descr}', 'fortran_order': {order}, 'shape': {tuple(shape)!r}, }}\n".encode()
-    length = struct.pack("<H" if version == 1 else "<I", len(header))
-    return b"\x93NUMPY" + bytes([version, 0]) + length + header + struct.pack(f"<{len(elements)}{FORMATS[descr]}", *elements)
-
-
-def read(path):
-    """Shape and elements of a .npy file of f4, version 1."""
-    data = path.read_bytes()
-    assert data[:8] == b"\x93NUMPY\x01\x00"
-    (length,) = struct.unpack("<H", data[8:10])
-    assert (10 + length) % 64 == 0
-    header = eval(data[10:10 + length], {})
-    assert header["descr"] == "<f4" and header["fortran_order"] is False
-    count = size(header["shape"])
-    return header["shape"], list(struct.unpack(f"<{count}f", data[10 + length:]))
-
-
-class Tool:
-    def __init__(self, program, folder):
-        self.program, self.folder, self.checks = program, folder, 0
-
-    def file(self, name, shape, elements, **settings):
-        (self.folder / name).write_bytes(npy(shape, elements, **settings))
-
-    def run(self, *words):
-        answer = subprocess.run([self.program, *map(str, words)], cwd=self.folder, capture_output=True, timeout=120)
-        return answer.returncode, answer.stdout.decode(), answer.stderr.decode()
-
-    def attend(self, *words):
-        return self.run("attend", "--query", "q.npy", "--key", "k.npy", "--value", "v.npy", "--output", "y.npy", *words)
-
-    def expect(self, what, found, wanted):
-        self.checks += 1
-        if found != wanted:
-            sys.exit(f"{what}: {found!r} instead of {wanted!r}")
-
-    def done(self, what, *words):
-        status, out, err = self.attend(*words)
-        self.expect(f"{what}: status, {err}", status, 0)
-        return out
-
-    def output(self, what, name, shape, elements):
-        self.expect(what, read(self.folder / name), (tuple(shape), elements))
-
-    def fails(self, what, status, words, *given):
-        """The command fails with this status and these words, writes no output and does not crash."""
-        (self.folder / "y.npy").unlink(missing_ok=True)
-        found, _, err = self.attend(*given)
-        self.expect(f"{what}: status, {err}", found, status)
-        self.checks += 1
-        if words not in err or "panicked" in err or not err.startswith("klaverdomp: "):
-            sys.exit(f"{what}: {err!r} has not {words!r}")
-        self.expect(f"{what}: an output", (self.folder / "y.npy").exists(), False)
-
-
-def qkv(tool, q, k, v, q_shape=None, k_shape=None, v_shape=None):
-    """Writes q.npy, k.npy and v.npy; without shapes, one batch and one head of size 1."""
-    tool.file("q.npy", q_shape or (1, 1, len(q), 1), q)
-    tool.file("k.npy", k_shape or (1, 1, len(k), 1), k)
-    tool.file("v.npy", v_shape or (1, 1, len(v), 1), v)
+from command_line_sessions import demonstration, saved_sessions
+from tool import Tool, npy, qkv, read
 
 
 def known_calls(tool):
@@ -198,14 +124,19 @@ def bad_files(tool):
     good = (tool.folder / "k.npy").read_bytes()
     damaged = {
         "nothing": (b"", "ends inside its first 8 bytes"),
-        "another format": (b"PK\x03\x04" + good, "is not a .npy file"),
+        "another format": (b"RIFF" + good, "--key k.npy: is not a .npy file"),
+        "an archive": (b"PK\x03\x04" + good, "--key k.npy: is an archive (.npz), and a .npy file of one tensor is needed; in NumPy "
+                       "numpy.save("),
         "a cut header": (good[:40], "ends inside its header"),
         "cut elements": (good[:-1], "is cut short: shape (1, 1, 2, 1) needs 8 bytes"),
         "more elements": (good + b"\x00", "is too long"),
-        "doubles": (npy((1, 1, 2, 1), [3, 3], descr="<f8"), "'<f8'"),
+        "doubles": (npy((1, 1, 2, 1), [3, 3], descr="<f8"),
+                    "--key k.npy: holds elements of type '<f8', and '<f4' is needed; in NumPy x.astype('<f4')"),
+        "another byte order": (good.replace(b"<f4", b">f4"),
+                               "--key k.npy: holds elements of type '>f4' (big-endian), and '<f4' is needed; in NumPy x.astype("),
         "Fortran order": (npy((1, 1, 2, 1), [3, 3], order="True"), "Fortran order"),
-        "bytes": (npy((1, 1, 2, 1), [3, 3], descr="|u1"), "--key holds bool or u1, and f4 is needed"),
-        "3 dimensions": (npy((1, 2, 1), [3, 3]), "--key has shape (1, 2, 1); (1, key heads, positions, 1) fits the query"),
+        "bytes": (npy((1, 1, 2, 1), [3, 3], descr="|u1"), "--key k.npy: holds elements of type '|u1', and '<f4' is needed; "),
+        "3 dimensions": (npy((1, 2, 1), [3, 3]), "--key k.npy has shape (1, 2, 1); (1, key heads, positions, 1) fits"),
         "a huge shape": (good.replace(b"(1, 1, 2, 1), }", b"(1,9**99,2,1)}  "), "k.npy: has a header"),
         "a shape past all memory": (good.replace(b"(1, 1, 2, 1), }", b"(9999999999999)}"), "k.npy: "),
     }
@@ -213,10 +144,15 @@ def bad_files(tool):
         (tool.folder / "k.npy").write_bytes(data)
         tool.fails(what, 2, words)
     (tool.folder / "k.npy").unlink()
-    tool.fails("no file", 2, "k.npy: No such file")
+    tool.fails("no file", 2, "--key k.npy: No such file")
     (tool.folder / "k.npy").mkdir()
-    tool.fails("a folder", 2, "k.npy: is a folder")
+    tool.fails("a folder", 2, "--key k.npy: is a folder")
     (tool.folder / "k.npy").rmdir()
+    (tool.folder / "k.npy").write_bytes(good)
+    tool.file("m.npy", (2,), [1, 1], descr="<i8")
+    tool.fails("a mask of counts", 2, "--mask m.npy: holds elements of type '<i8', and '|b1' or '|u1' or '<f4' is needed; in NumPy "
+               "x.astype(bool) or x.astype('<f4')", "--mask", "m.npy")
+    tool.fails("live counts of floats", 2, "--live q.npy: holds elements of type '<f4', and '<i8' is needed", "--live", "q.npy")
     # no damage of one byte makes it crash
     rng = random.Random(3)
     for _ in range(60):
@@ -230,8 +166,8 @@ def bad_files(tool):
 def refused_calls(tool):
     nan = float("nan")
     qkv(tool, [1], [3, 3], [2, nan])
-    tool.fails("a NaN", 1, "refused: refusal 9: element 1 of the value is not a number of magnitude at most 65,536\n"
-               "  it is NaN\n  at [0, 0, 1, 0] of shape (1, 1, 2, 1)")
+    tool.fails("a NaN", 1, "klaverdomp: refusal 9: element 1 of the value is not a number of magnitude at most 65,536\n"
+               "  it is NaN\n  at [0, 0, 1, 0] of --value v.npy, shape (1, 1, 2, 1)\n")
     qkv(tool, [1], [3, 3], [2, 4])
     tool.fails("a scale of 0", 1, "refusal 3", "--scale", "0")
     tool.fails("a scale that is no number", 1, "the scale is NaN", "--scale", "nan")
@@ -241,7 +177,7 @@ def refused_calls(tool):
     tool.fails("a scale and a cap", 1, "  the scale is 0\n  the softcap is 70000.0\n", "--softcap", "70000", "--scale", "0")
     tool.fails("mode 4", 1, "the score mode is 4", "--mode", "4", "--scores", "s.npy")
     tool.file("m.npy", (1, 1, 1, 3), [1, 1, 1], descr="|b1")
-    tool.fails("a mask too long", 1, "refusal 4", "--mask", "m.npy")
+    tool.fails("a mask too long", 1, "--mask m.npy has shape (1, 1, 1, 3)", "--mask", "m.npy")
     tool.file("m.npy", (1, 1, 1, 2), [1, 2], descr="|u1")
     tool.fails("a mask byte 2", 1, "refusal 8: element 1 of the mask", "--mask", "m.npy")
     tool.file("live.npy", (1,), [3], descr="<i8")
@@ -251,7 +187,16 @@ def refused_calls(tool):
     qkv(tool, [], [1], [1], (1, 1, 0, 1))
     tool.fails("no queries", 1, "the query length is 0")
     qkv(tool, [1] * 4, [1] * 3, [1] * 3, (1, 4, 1, 1), (1, 3, 1, 1), (1, 3, 1, 1))
-    tool.fails("4 heads over 3", 1, "4 query heads, 3 key heads")
+    tool.fails("4 heads over 3", 1, "4 query heads, 3 key heads\n  --query q.npy has shape (1, 4, 1, 1)\n  --key k.npy has shape")
+    qkv(tool, [1], [1], [1])
+    tool.file("pk.npy", (1, 1, 3, 1), [1] * 3)
+    tool.file("pv.npy", (1, 1, 2, 1), [1] * 2)
+    tool.fails("keys and values of two calls", 1, "klaverdomp: refusal 5: ", "--past-key", "pk.npy", "--past-value", "pv.npy")
+    tool.fails("the same in words", 1, "--past-key pk.npy has shape (1, 1, 3, 1)\n  --past-value pv.npy has shape (1, 1, 2, 1)\n"
+               "  the past has 3 keys and 2 values: they are of two calls\n", "--past-key", "pk.npy", "--past-value", "pv.npy")
+    tool.file("pv.npy", (1, 2, 3, 1), [1] * 6)
+    tool.fails("a past of other heads", 2, "--past-value pv.npy has shape (1, 2, 3, 1); (1, 1, past, 1)", "--past-key", "pk.npy",
+               "--past-value", "pv.npy")
 
 
 def bad_usage(tool):
@@ -265,8 +210,18 @@ def bad_usage(tool):
     tool.fails("heads with 4 dimensions", 2, "with 4 the shapes give them", "--q-heads", "1")
     tool.fails("a past key alone", 2, "--past-key and --past-value go together", "--past-key", "q.npy")
     tool.fails("live counts beside a cache", 2, "--live stands for an outside cache", "--live", "live.npy", "--past-key", "q.npy")
-    tool.fails("two outputs in one file", 2, "is named for two outputs", "--mode", "3", "--scores", "y.npy")
-    tool.fails("an output that cannot be written", 2, "no/s.npy", "--mode", "3", "--scores", "no/s.npy")
+    tool.fails("two outputs in one file", 2, "--output y.npy and --scores y.npy are one file", "--mode", "3", "--scores", "y.npy")
+    tool.fails("an output that cannot be written", 2, "--scores no/s.npy: No such file", "--mode", "3", "--scores", "no/s.npy")
+    for words in (("--mask=",), ("--mask", ""), ("--mask",), ("--mask", "--causal")):
+        tool.fails(f"no value: {words}", 2, "--mask needs a value", *words)
+    for words, fault in ((("session", "foo"), "there is no 'session foo': 'session info FILE' is what there is\n"
+                                              "'klaverdomp session --help' shows the options"),
+                         (("session", "info", "--json", "q.npy"), "--json is not an option here"),
+                         (("session", "-x"), "-x is not an option"),
+                         (("session", "info"), "the file is missing"), (("help", "foo"), "there is no command 'foo'"),
+                         (("help", "demo", "bench"), "help is for one command"), (("foo",), "there is no command 'foo'")):
+        status, out, err = tool.run(*words)
+        tool.expect(f"{words}: {err}", (status, out, err.startswith(f"klaverdomp: {fault}")), (2, "", True))
     for words in ((), ("no-such-command",), ("attend",), ("demo", "--head", "9"), ("demo", "--softcap", "x"),
                   ("bench", "--shape", "6"), ("session",), ("session", "q.npy"), ("session", "info"),
                   ("session", "info", "q.npy", "k.npy")):
@@ -274,78 +229,7 @@ def bad_usage(tool):
     for words in (("--help",), ("attend", "--help"), ("session", "--help"), ("demo", "--help"), ("bench", "--help")):
         status, out, _ = tool.run(*words)
         tool.expect(f"help of {words}", (status, "klaverdomp" in out), (0, True))
-
-
-def session_record(kind, payload):
-    return struct.pack("<IH", len(payload), kind) + payload
-
-
-def saved_sessions(tool):
-    """What 'session info' says of a sound file, of every cut of it, and of damaged ones."""
-    sizes = (2, 1, 3, 1)
-    first = session_record(1, struct.pack("<4H", *sizes))
-    positions = [session_record(2, struct.pack("<8f", *[p + n / 8 for n in range(8)])) for p in range(3)]
-    good = first + b"".join(positions)
-
-    def info(data):
-        (tool.folder / "s").write_bytes(data)
-        return tool.run("session", "info", "s")
-
-    for cut in range(len(first), len(good) + 1):
-        whole, behind = divmod(cut - len(first), len(positions[0]))
-        status, out, err = info(good[:cut])
-        tool.expect(f"info of {cut} bytes, {err}", (status, out), (0, f"""\
-batch            2
-key heads        1
-head size        3
-value head size  1
-positions        {whole} of at most 2048
-bytes used       {cut - behind}
-cut bytes behind {behind}
-"""))
-    nan = struct.pack("<f", float("nan"))
-    damaged = {
-        "nothing": (b"", "refusal 11: byte 0: the first record is missing, cut or"),
-        "a cut first record": (good[:13], "refusal 11: byte 0: "),
-        "no saved session": (npy((1,), [1]), "refusal 11: byte 0: "),
-        "nine batches": (good[:6] + b"\x09" + good[7:], "refusal 1: a size is outside its limits"),
-        "2,049 positions": (session_record(1, struct.pack("<4H", 1, 1, 1, 1)) + session_record(2, bytes(8)) * 2049,
-                            "or there are more than 2,048 positions"),
-        "another kind": (good[:56] + b"\x03" + good[57:], "refusal 11: byte 52: the record that begins there is"),
-        "another length": (good[:15] + b"\x01" + good[16:], "refusal 11: byte 14: "),
-        "a NaN": (good[:100] + nan + good[104:], "refusal 9: position 2 has an element"),
-    }
-    for what, (data, words) in damaged.items():
-        status, out, err = info(data)
-        tool.expect(f"{what}: {err}", (status, out, err.startswith("klaverdomp: refused: s: ") and words in err), (1, "", True))
-    status, _, err = tool.run("session", "info", "no-such-file")
-    tool.expect(f"no file: {err}", (status, "no-such-file: No such file" in err), (2, True))
-
-
-def demonstration(tool):
-    status, out, err = tool.run("demo", "--output", "demo.svg", "--head", "2")
-    tool.expect(f"demo: status, {err}", status, 0)
-    tool.expect("demo: cuts that agree", (out.count(AGREE), out.count("saved and taken up")), (12, 2))
-    tool.expect("demo: the saved session", "positions        48 of" in tool.run("session", "info", "demo.session")[1], True)
-    texts = picture_texts(tool)
-    for text in ("key position j", "query position i", "weight", "no score cap", "a score cap of 2"):
-        tool.expect(f"demo: {text}", text in texts, True)
-    for words, agree, panels in ((("--softcap", "0.5"), 12, ["no score cap", "a score cap of 0.5"]),
-                                 (("--softcap=0",), 6, ["no score cap"])):
-        status, out, err = tool.run("demo", "--output", "demo.svg", *words)
-        tool.expect(f"demo {words}: status, {err}", (status, out.count(AGREE)), (0, agree))
-        tool.expect(f"demo {words}: panels", [text for text in picture_texts(tool) if "score cap" in text], panels)
-    status, _, err = tool.run("demo", "--softcap", "nan")
-    tool.expect(f"demo: a bad cap, {err}", (status, "the softcap is NaN" in err), (1, True))
-    for words, fault in ((("--session", "no/session"), "no/session: No such file"),
-                         (("--output", "one", "--session", "one"), "one is named for the picture and for the session")):
-        status, _, err = tool.run("demo", *words)
-        tool.expect(f"demo {words}: {err}", (status, fault in err), (2, True))
-
-
-def picture_texts(tool):
-    root = xml.etree.ElementTree.parse(tool.folder / "demo.svg").getroot()
-    return ["".join(text.itertext()) for text in root.iter("{http://www.w3.org/2000/svg}text")]
+        tool.expect(f"help, then {words}", tool.run("help", *words[:-1]), (0, out, ""))
 
 
 def measurements(tool):

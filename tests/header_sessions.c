@@ -41,8 +41,10 @@ static void file_refused(size_t len, uint32_t number, uint64_t place, const char
     memcpy(before, buffer, sizeof buffer);
     expect(reading_refused(klaverdomp_session_inspect(buffer, len), number, place), what);
     expect(reading_refused(klaverdomp_session_load(buffer, len, keys, 2, values_read, 1), number, place), what);
+    if (number == KLAVERDOMP_ELEMENT || place > 0) /* what stands before the fault is a file of whole positions */
+        expect(klaverdomp_session_inspect(buffer, number == KLAVERDOMP_ELEMENT ? 14 + 14 * place : place).refusal == KLAVERDOMP_DONE, what);
     s = klaverdomp_session_append(buffer, len, len, UINT64_MAX, NULL, 5, NULL, 5);
-    expect(s.refusal == number && s.place == place && s.positions == 0 && s.used == 0, what);
+    expect(s.refusal == number && s.place == place && s.positions == 0 && s.used == len, what);
     expect(memcmp(buffer, before, sizeof buffer) == 0, what);
 }
 
@@ -57,9 +59,10 @@ static int is_saving(klaverdomp_session_saving s, uint64_t positions)
     return s.refusal == KLAVERDOMP_DONE && s.place == 0 && s.positions == positions && s.used == 14 + 14 * positions;
 }
 
-static void saving_refused(klaverdomp_session_saving s, uint32_t number, uint64_t place, const char *what)
+/* Whether a begin or an append is that refusal, and gives back the `used` that was lent, which is 0 for a begin. */
+static void saving_refused(klaverdomp_session_saving s, uint64_t used, uint32_t number, uint64_t place, const char *what)
 {
-    expect(s.refusal == number && s.place == place && s.positions == 0 && s.used == 0, what);
+    expect(s.refusal == number && s.place == place && s.positions == 0 && s.used == used, what);
     expect(memcmp(buffer, before, sizeof buffer) == 0, what);
 }
 
@@ -181,35 +184,56 @@ static void savings_that_are_refused(void)
     for (i = 0; i < 4; i++) {
         uint64_t s[4] = { 1, 1, 1, 1 };
         s[i] = 0;
-        saving_refused(klaverdomp_session_begin(buffer, 0, s[0], s[1], s[2], s[3]), KLAVERDOMP_LIMITS, 0, "a size of 0");
+        saving_refused(klaverdomp_session_begin(buffer, 0, s[0], s[1], s[2], s[3]), 0, KLAVERDOMP_LIMITS, 0, "a size of 0");
         s[i] = most[i] + 1;
-        saving_refused(klaverdomp_session_begin(buffer, 28, s[0], s[1], s[2], s[3]), KLAVERDOMP_LIMITS, 0, "a size above its limit");
+        saving_refused(klaverdomp_session_begin(buffer, 28, s[0], s[1], s[2], s[3]), 0, KLAVERDOMP_LIMITS, 0, "a size above its limit");
         s[i] = (1ull << 32) + 1;
-        saving_refused(klaverdomp_session_begin(buffer, 28, s[0], s[1], s[2], s[3]), KLAVERDOMP_LIMITS, 0, "a size of 33 bits");
+        saving_refused(klaverdomp_session_begin(buffer, 28, s[0], s[1], s[2], s[3]), 0, KLAVERDOMP_LIMITS, 0, "a size of 33 bits");
         s[i] = most[i];
-        saving_refused(klaverdomp_session_begin(buffer, 13, s[0], s[1], s[2], s[3]), KLAVERDOMP_ROOM, 0, "a begin with a byte too few");
+        saving_refused(klaverdomp_session_begin(buffer, 13, s[0], s[1], s[2], s[3]), 0, KLAVERDOMP_ROOM, 0, "a begin with a byte too few");
     }
     expect(klaverdomp_session_begin(NULL, 28, 1, 1, 1, 1).refusal == KLAVERDOMP_ROOM, "a null pointer stands for an empty buffer");
-    saving_refused(klaverdomp_session_append(buffer, 28, 29, 0, NULL, 0, NULL, 0), KLAVERDOMP_ROOM, 0, "more used than there is");
-    saving_refused(klaverdomp_session_append(buffer, 28, UINT64_MAX, 1, rows, 1, rows, 1), KLAVERDOMP_ROOM, 0, "all bytes used");
+    saving_refused(klaverdomp_session_append(buffer, 28, 29, 0, NULL, 0, NULL, 0), 29, KLAVERDOMP_ROOM, 0, "more used than there is");
+    saving_refused(klaverdomp_session_append(buffer, 28, UINT64_MAX, 1, rows, 1, rows, 1), UINT64_MAX, KLAVERDOMP_ROOM, 0, "all bytes used");
     for (i = 0; i < 4; i++)
-        saving_refused(klaverdomp_session_append(buffer, 28, 28, counts[i], rows, 0, rows, 0), KLAVERDOMP_LIMITS, 0, "a 2,049th position");
-    saving_refused(klaverdomp_session_append(buffer, 28, 28, 1, rows, 2, rows, 1), KLAVERDOMP_INPUT_LENGTH, 0, "a key too many");
-    saving_refused(klaverdomp_session_append(buffer, 28, 28, 1, rows, 1, NULL, 1), KLAVERDOMP_INPUT_LENGTH, 0, "a value too few");
-    saving_refused(klaverdomp_session_append(buffer, 28, 28, 0, rows, 1, rows, 0), KLAVERDOMP_INPUT_LENGTH, 0, "a key of no position");
+        saving_refused(klaverdomp_session_append(buffer, 28, 28, counts[i], rows, 0, rows, 0), 28, KLAVERDOMP_LIMITS, 0, "too many");
+    saving_refused(klaverdomp_session_append(buffer, 28, 28, 1, rows, 2, rows, 1), 28, KLAVERDOMP_INPUT_LENGTH, 0, "a key too many");
+    saving_refused(klaverdomp_session_append(buffer, 28, 28, 1, rows, 1, NULL, 1), 28, KLAVERDOMP_INPUT_LENGTH, 0, "a value too few");
+    saving_refused(klaverdomp_session_append(buffer, 28, 28, 0, rows, 1, rows, 0), 28, KLAVERDOMP_INPUT_LENGTH, 0, "a key of no position");
     for (i = 14; i <= 28; i++) { /* the room is counted from the last whole record on, and there is a byte too little */
         uint64_t whole = i == 28;
-        saving_refused(klaverdomp_session_append(buffer, 41 + 14 * whole, i, 2, rows, 2, rows, 2), KLAVERDOMP_ROOM, 0, "a byte too few");
+        saving_refused(klaverdomp_session_append(buffer, 41 + 14 * whole, i, 2, rows, 2, rows, 2), i, KLAVERDOMP_ROOM, 0, "a byte too few");
     }
     rows[1] = NAN;
-    saving_refused(klaverdomp_session_append(buffer, 28, 28, 2, rows, 2, rows, 2), KLAVERDOMP_ELEMENT, 2, "a NaN in the third position");
+    saving_refused(klaverdomp_session_append(buffer, 28, 28, 2, rows, 2, rows, 2), 28, KLAVERDOMP_ELEMENT, 2, "a NaN in the third position");
     rows[0] = 65536.0078125f;
-    saving_refused(klaverdomp_session_append(buffer, 28, 28, 2, rows + 1, 2, rows, 2), KLAVERDOMP_ELEMENT, 1, "a value above 65,536");
+    saving_refused(klaverdomp_session_append(buffer, 28, 28, 2, rows + 1, 2, rows, 2), 28, KLAVERDOMP_ELEMENT, 1, "a value above 65,536");
+}
+
+/* A session goes on after appends that are refused, each with the `used` that the one before gave back. */
+static void sessions_that_go_on(void)
+{
+    const float no_number = NAN, key_row = 1, value_row = 2;
+    klaverdomp_session_saving s = klaverdomp_session_begin(buffer, 42, 1, 1, 1, 1);
+    s = klaverdomp_session_append(buffer, 42, s.used, 1, &no_number, 1, &value_row, 1);
+    expect(s.refusal == KLAVERDOMP_ELEMENT && s.used == 14, "a NaN behind a begin");
+    s = klaverdomp_session_append(buffer, 42, s.used, 1, &key_row, 1, &value_row, 1);
+    expect(is_saving(s, 1), "a good position behind a refused one");
+    s = klaverdomp_session_append(buffer, 42, s.used, 1, &key_row, 1, &no_number, 1);
+    expect(s.refusal == KLAVERDOMP_ELEMENT && s.place == 1 && s.used == 28, "a NaN behind a position");
+    s = klaverdomp_session_append(buffer, 42, s.used, 2048, NULL, 0, NULL, 0);
+    expect(s.refusal == KLAVERDOMP_LIMITS && s.used == 28, "too many behind a refused one");
+    s = klaverdomp_session_append(buffer, 42, s.used, 1, &key_row, 1, &value_row, 1);
+    expect(is_saving(s, 2), "a good position behind two refused ones");
+    s = klaverdomp_session_append(buffer, 42, s.used, 1, &key_row, 1, &value_row, 1);
+    expect(s.refusal == KLAVERDOMP_ROOM && s.used == 42, "no room");
+    expect(is_reading(klaverdomp_session_inspect(buffer, s.used), 2), "the file after all of them");
 }
 
 int main(void)
 {
     sessions_that_are_saved();
+    sessions_that_go_on();
     other_sizes();
     files_that_are_refused();
     savings_that_are_refused();

@@ -2,6 +2,7 @@
 
 use std::collections::BTreeMap;
 use std::ffi::{OsStr, OsString};
+use std::os::unix::ffi::OsStrExt;
 use std::path::Path;
 use std::str::FromStr;
 
@@ -13,7 +14,8 @@ pub struct Args {
 }
 
 impl Args {
-    /// Reads the words as options: `valued` ones take a value, `flags` none. Each may be given once.
+    /// Reads the words as options: `valued` ones take a value, `flags` none. Each may be given once. A value is not empty, and no option
+    /// itself.
     pub fn parse(
         words: impl IntoIterator<Item = OsString>,
         valued: &[&'static str],
@@ -32,7 +34,9 @@ impl Args {
                 }
                 args.flags.push(flag);
             } else if let Some(option) = valued.iter().find(|option| name == **option) {
-                let Some(value) = attached.or_else(|| words.next()) else {
+                let option_itself = |word: &OsString| valued.iter().chain(flags).any(|option| split(word).0 == *option);
+                let value = attached.or_else(|| words.next().filter(|word| !option_itself(word)));
+                let Some(value) = value.filter(|value| !value.is_empty()) else {
                     return Err(format!("{option} needs a value"));
                 };
                 if args.values.insert(option, value).is_some() {
@@ -66,16 +70,11 @@ impl Args {
     }
 }
 
-/// A word before and after its first `=`.
+/// A word before and after its first `=`. A name that is not text names no option.
 fn split(word: &OsStr) -> (&str, Option<OsString>) {
-    let Some(text) = word.to_str() else {
-        // a value that is not text must stand by itself
-        return ("", None);
-    };
-    match text.split_once('=') {
-        Some((name, value)) => (name, Some(value.into())),
-        None => (text, None),
-    }
+    let mut parts = word.as_bytes().splitn(2, |byte| *byte == b'=');
+    let name = parts.next().and_then(|name| std::str::from_utf8(name).ok()).unwrap_or("");
+    (name, parts.next().map(|value| OsStr::from_bytes(value).to_os_string()))
 }
 
 #[cfg(test)]
@@ -96,9 +95,23 @@ mod tests {
     }
 
     #[test]
+    fn values_of_any_bytes() {
+        for (word, value) in [("--mask=a=b", "a=b"), ("--mask==", "="), ("--mask=--other", "--other")] {
+            assert_eq!(parse(&[word]).unwrap().path("--mask"), Some(Path::new(value)));
+        }
+        let word = OsStr::from_bytes(b"--mask=\xFF.npy").to_os_string();
+        let args = Args::parse([word], &["--mask"], &[]).unwrap();
+        assert_eq!(args.path("--mask").unwrap().as_os_str().as_bytes(), b"\xFF.npy");
+    }
+
+    #[test]
     fn faults_in_words() {
         assert_eq!(parse(&["--other"]).unwrap_err(), "--other is not an option here");
         assert_eq!(parse(&["--mask"]).unwrap_err(), "--mask needs a value");
+        for words in [&["--mask="][..], &["--mask", ""], &["--mask", "--causal"], &["--mask", "--scale=1"], &["--mask", "--mask"]]
+        {
+            assert_eq!(parse(words).unwrap_err(), "--mask needs a value");
+        }
         assert_eq!(parse(&["--causal=1"]).unwrap_err(), "--causal takes no value");
         assert_eq!(parse(&["--causal", "--causal"]).unwrap_err(), "--causal is given twice");
         assert_eq!(parse(&["--mask=a", "--mask=b"]).unwrap_err(), "--mask is given twice");

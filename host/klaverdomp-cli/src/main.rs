@@ -8,7 +8,9 @@ mod bench;
 mod clock;
 mod demo;
 mod npy;
+mod outputs;
 mod picture;
+mod prepared;
 #[cfg(reference)]
 mod reference;
 mod session;
@@ -25,7 +27,7 @@ klaverdomp - attention for speech recognition (ONNX Attention 24, f32, KV caches
   klaverdomp demo ...     a small recording, whole, in chunks, and saved and taken up; its weights as a picture
   klaverdomp bench ...    how long calls and saved sessions take, beside a plain C program of the same rounding order
 
-'klaverdomp COMMAND --help' says more about each.
+'klaverdomp COMMAND --help' or 'klaverdomp help COMMAND' says more about each.
 
 Exit status: 0 done; 1 the operator refuses the call or the saved session, or the demonstration finds bits that differ;
 2 bad usage, a file that cannot be read or written.
@@ -60,21 +62,40 @@ fn main() -> ExitCode {
     }
 }
 
+/// A command: its name, its help, and what it does.
+type Command = (&'static str, &'static str, fn(Vec<OsString>) -> Result<(), Failure>);
+
+const COMMANDS: [Command; 4] = [
+    ("attend", attend::HELP, attend::run),
+    ("session", session::HELP, session::run),
+    ("demo", demo::HELP, demo::run),
+    ("bench", bench::HELP, bench::run),
+];
+
 fn run(command: Option<&str>, words: Vec<OsString>) -> Result<(), Failure> {
-    let help = words.iter().any(|word| word == "--help" || word == "-h");
+    let usage = |words: String| Failure::Usage(words, "");
     match command {
-        Some("attend") if help => say(attend::HELP),
-        Some("attend") => attend::run(words),
-        Some("session") if help => say(session::HELP),
-        Some("session") => session::run(words),
-        Some("demo") if help => say(demo::HELP),
-        Some("demo") => demo::run(words),
-        Some("bench") if help => say(bench::HELP),
-        Some("bench") => bench::run(words),
-        Some("--help" | "-h" | "help") => say(HELP),
-        Some(other) => Err(Failure::Usage(format!("there is no command '{other}'"), "")),
-        None => Err(Failure::Usage("a command is missing: attend, session, demo or bench".to_string(), "")),
+        Some("--help" | "-h") => say(HELP),
+        Some("help") => match &words[..] {
+            [] => say(HELP),
+            [word] if word == "help" => say(HELP),
+            [word] => say(find(&word.to_string_lossy())?.1),
+            _ => Err(usage("help is for one command at a time".to_string())),
+        },
+        Some(name) => {
+            let (_, help, run) = find(name)?;
+            match words.iter().any(|word| word == "--help" || word == "-h") {
+                true => say(help),
+                false => run(words),
+            }
+        }
+        None => Err(usage("a command is missing: attend, session, demo or bench".to_string())),
     }
+}
+
+fn find(name: &str) -> Result<Command, Failure> {
+    let found = COMMANDS.into_iter().find(|command| command.0 == name);
+    found.ok_or_else(|| Failure::Usage(format!("there is no command '{name}'"), ""))
 }
 
 /// Writes to standard output.
@@ -97,8 +118,7 @@ pub fn progress(text: &str) {
 
 fn report(failure: Failure) -> ExitCode {
     let (words, status) = match failure {
-        Failure::Refused(words) => (format!("refused: {words}"), 1),
-        Failure::Differs(words) => (words, 1),
+        Failure::Refused(words) | Failure::Differs(words) => (words, 1),
         Failure::Usage(words, command) => {
             let space = if command.is_empty() { "" } else { " " };
             (format!("{words}\n'klaverdomp{space}{command} --help' shows the options"), 2)

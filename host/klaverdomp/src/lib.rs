@@ -37,9 +37,13 @@
 #![deny(unsafe_code)]
 
 mod call;
+mod contents;
+mod damage;
 mod explain;
 mod ffi;
+mod open_file;
 mod refusal;
+mod save_error;
 mod saved;
 mod session;
 pub mod session_file;
@@ -50,7 +54,8 @@ use std::collections::TryReserveError;
 pub use call::{Call, Form, Lengths, MaskKind};
 pub use explain::explain;
 pub use refusal::Refusal;
-pub use saved::{SaveError, SavedSession};
+pub use save_error::{SaveError, SaveFault};
+pub use saved::{saved_in, SavedSession};
 pub use session::{Session, Settings};
 pub use step::{is_step, step, StepInputs, StepOutputs};
 

@@ -1,7 +1,8 @@
 //! The KV cache of a recording that comes in chunks.
 
 use crate::session_file::Sizes;
-use crate::{attention, before_outputs, is_step, step, Call, Done, Refusal, StepInputs, StepOutputs};
+use crate::{attention, before_outputs, check, explain, is_step, step};
+use crate::{Call, Done, Inputs, Outputs, Refusal, StepInputs, StepOutputs};
 
 /// What stays the same through a session.
 ///
@@ -48,6 +49,27 @@ impl Settings {
 
     pub fn with_softcap(self, softcap: f32) -> Settings {
         Settings { softcap, ..self }
+    }
+
+    /// Asks the operator whether a call can use these settings: the refusal of number 1 to 3 that every chunk gets, if there is one.
+    ///
+    /// ```
+    /// use klaverdomp::Settings;
+    ///
+    /// assert!(Settings::new(4, 2, 64).check().is_ok());
+    /// assert_eq!(Settings::new(4, 3, 64).check().unwrap_err().number, 2);
+    /// ```
+    pub fn check(&self) -> Result<(), Refusal> {
+        match check(&self.call(0, 1), &Inputs::default()) {
+            // the lengths of the tensors, of which there are none yet, are tested after the settings
+            Err(refusal) if refusal.number < 5 => Err(refusal),
+            _ => Ok(()),
+        }
+    }
+
+    /// What is wrong with the settings, in words.
+    pub(crate) fn explain(&self, refusal: &Refusal) -> String {
+        explain(&self.call(0, 1), &Inputs::default(), &Outputs::default(), refusal)
     }
 
     /// The sizes of the caches.

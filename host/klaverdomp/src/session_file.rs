@@ -32,6 +32,8 @@ use crate::ffi;
 use std::error::Error;
 use std::fmt;
 
+pub use crate::damage::Damage;
+
 /// The bytes of the first record, and those of every record's length and kind.
 pub(crate) const FIRST: usize = 14;
 const HEAD: usize = 6;

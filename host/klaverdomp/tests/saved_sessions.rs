@@ -3,36 +3,15 @@
 
 mod common;
 
-use common::{bits, Generator};
+use common::{bits, Generator, Place};
 use klaverdomp::session_file::{append, begin, inspect, load, Reading, Refusal, Saving, Sizes};
-use klaverdomp::{SaveError, SavedSession, Session, Settings};
+use klaverdomp::{SavedSession, Session, Settings};
 use std::fs;
-use std::path::{Path, PathBuf};
+use std::path::Path;
 
 /// One position, all sizes 1, key 1, value 2.
 const EXAMPLE: [u8; 28] = [8, 0, 0, 0, 1, 0, 1, 0, 1, 0, 1, 0, 1, 0, 8, 0, 0, 0, 2, 0, 0, 0, 0x80, 0x3F, 0, 0, 0, 0x40];
 const ONES: Sizes = Sizes { batches: 1, kv_heads: 1, size: 1, v_size: 1 };
-
-/// A path in a folder of its own, which is removed at the end.
-struct Place(PathBuf);
-
-impl Place {
-    fn new(name: &str) -> Place {
-        let folder = std::env::temp_dir().join(format!("klaverdomp-{name}-{}", std::process::id()));
-        fs::create_dir_all(&folder).unwrap();
-        Place(folder)
-    }
-
-    fn file(&self) -> PathBuf {
-        self.0.join("session")
-    }
-}
-
-impl Drop for Place {
-    fn drop(&mut self) {
-        let _ = fs::remove_dir_all(&self.0);
-    }
-}
 
 fn settings() -> Settings {
     Settings::new(4, 2, 5).with_value_size(3).with_batches(2).with_rank(3)
@@ -153,19 +132,21 @@ fn every_cut_of_a_file_is_taken_up() {
     let whole = fs::read(place.file()).unwrap();
     for cut in 0..=whole.len() {
         fs::write(place.file(), &whole[..cut]).unwrap();
-        if (1..14).contains(&cut) {
-            let refused = session.save_to(place.file()).unwrap_err();
-            assert!(matches!(refused, SaveError::Refused(Refusal { number: 11, place: 0 })));
+        if cut < 14 {
+            // what a stop leaves of a first record: begun anew, where it is opened to be saved
+            assert!(Session::resume(settings, place.file()).unwrap_err().to_string().contains("refusal 11"));
             assert_eq!(fs::read(place.file()).unwrap(), whole[..cut]);
-            continue;
-        }
-        if cut > 0 {
+            assert_eq!(SavedSession::open(settings, place.file()).unwrap().saved(), 0);
+            assert_eq!(fs::read(place.file()).unwrap(), whole[..14]);
+            fs::write(place.file(), &whole[..cut]).unwrap();
+        } else {
             let positions = ((cut - 14) / settings.sizes().record_len()) as u64;
             assert_eq!(Session::resume(settings, place.file()).unwrap().len(), positions);
             // nothing to add: what is cut goes
             let mut saved = SavedSession::open(settings, place.file()).unwrap();
             assert_eq!((saved.saved(), saved.save().unwrap()), (positions, positions));
             assert_eq!(fs::read(place.file()).unwrap(), whole[..settings.sizes().file_len(positions)]);
+            drop(saved);
             fs::write(place.file(), &whole[..cut]).unwrap();
         }
         assert_eq!(session.save_to(place.file()).unwrap(), 3);
@@ -193,6 +174,7 @@ fn a_saved_session_writes_what_is_new() {
             assert_eq!((saved.saved(), saved.save().unwrap(), saved.saved()), (turn - 2, turn, turn));
         }
         if turn == 6 {
+            drop(saved);
             saved = SavedSession::open(settings, place.file()).unwrap();
         }
     }

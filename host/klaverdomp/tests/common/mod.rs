@@ -1,7 +1,9 @@
-// What the tests share: a call with buffers of its own, bits, and a fixed generator.
+// What the tests share: a call with buffers of its own, bits, a fixed generator, and a folder for files.
 #![allow(dead_code)]
 
 use klaverdomp::{attention, Buffers, Call, Done, Inputs, Refusal};
+use std::fs;
+use std::path::PathBuf;
 
 /// The answer, and the output tensors afterwards.
 pub fn run(call: &Call, inputs: &Inputs) -> (Result<Done, Refusal>, Buffers) {
@@ -47,5 +49,26 @@ impl Generator {
 
     pub fn tensor(&mut self, len: usize) -> Vec<f32> {
         (0..len).map(|_| self.element()).collect()
+    }
+}
+
+/// A path in a folder of its own, which is removed at the end.
+pub struct Place(pub PathBuf);
+
+impl Place {
+    pub fn new(name: &str) -> Place {
+        let folder = std::env::temp_dir().join(format!("klaverdomp-{name}-{}", std::process::id()));
+        fs::create_dir_all(&folder).unwrap();
+        Place(folder)
+    }
+
+    pub fn file(&self) -> PathBuf {
+        self.0.join("session")
+    }
+}
+
+impl Drop for Place {
+    fn drop(&mut self) {
+        let _ = fs::remove_dir_all(&self.0);
     }
 }
