@@ -1,4 +1,4 @@
--- The part of the two tensors that starts with a position's row: its elements are those of that position and of the ones behind it, and each of those rows ends inside it. Assumes nothing.
+-- The part of the two tensors that starts with a position's row: its elements are those of that position and of the ones behind it, and each of those rows ends inside it. The row itself: its elements and its length. Assumes nothing.
 use mathlib.Core.Path.{_≡_, sym, ap, _∙_}
 use mathlib.Core.Bool.{Bool, true, false, cond}
 use mathlib.Core.List.{List}
@@ -8,7 +8,7 @@ use native.Mathlib.Decide.{decLt}
 use native.Mathlib.Omega.{arith}
 use lib.Dec.{eqb}
 use lib.ListN.{length, drop, length-drop}
-use lib.Seq.{getD-drop}
+use lib.Seq.{getD-drop, getD-take, length-take-le}
 use lib.Ieee.{Float, nan}
 use borrow.Author.Tests.{lt-ltb, le-ltb}
 use Rattle.tensor_laws.specs.Layout.{slot}
@@ -17,7 +17,7 @@ use Rattle.call.specs.declared.Call.{Call}
 use Rattle.call.specs.Limits.{totalOf}
 use Rattle.attention.specs.Elements.{cellAt, positionCell}
 use Rattle.caches.specs.Fits.{CacheFits}
-use Rattle.caches.specs.Rows.{rowsFrom, strideFrom}
+use Rattle.caches.specs.Rows.{rowsFrom, rowAt, strideFrom}
 use Rattle.caches.proofs.Starts.{at-position, past-row-end, incoming-row-end}
 
 -- ---- the row m positions behind another starts m strides behind it: q is the test of the rank
@@ -83,11 +83,18 @@ module _ (c : Call) (past incoming : List Float) (size b g j : ℕ) where
   behind-none : j < c .past → j + 0 < c .past
   behind-none h = omega arith
 
-  pub row-cell : (k : ℕ) → elementOf (rowsFrom c past incoming size b g j) k ≡ positionCell c past incoming size b g j k
-  row-cell k =
-      ap (elementOf (rowsFrom c past incoming size b g j)) (omega (arith, zero-mul (strideFrom c size j)))
+  -- it is inside the part that starts with it
+  pub row-inside : CacheFits c (length past) (length incoming) size b g j → size ≤ length (rowsFrom c past incoming size b g j)
+  row-inside f = omega (arith, rows-from-inside c past incoming size b g j 0 behind-none f (omega (arith, f .position)), zero-mul (strideFrom c size j))
+
+  pub row-long : CacheFits c (length past) (length incoming) size b g j → length (rowAt c past incoming size b g j) ≡ size
+  unfolding rowAt
+  row-long f = length-take-le size (rowsFrom c past incoming size b g j) (row-inside f)
+
+  pub row-cell : (k : ℕ) → k < size → elementOf (rowAt c past incoming size b g j) k ≡ positionCell c past incoming size b g j k
+  unfolding rowAt
+  row-cell k h =
+      getD-take size (rowsFrom c past incoming size b g j) k nan h
+      ∙ ap (elementOf (rowsFrom c past incoming size b g j)) (omega (arith, zero-mul (strideFrom c size j)))
       ∙ rows-from-cell c past incoming size b g j 0 behind-none k
       ∙ ap (λ (i : ℕ). positionCell c past incoming size b g i k) (omega arith)
-
-  pub row-long-enough : CacheFits c (length past) (length incoming) size b g j → size ≤ length (rowsFrom c past incoming size b g j)
-  row-long-enough f = omega (arith, rows-from-inside c past incoming size b g j 0 behind-none f (omega (arith, f .position)), zero-mul (strideFrom c size j))

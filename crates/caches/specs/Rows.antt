@@ -3,18 +3,23 @@ use mathlib.Core.Bool.{Bool, cond, _&&_}
 use mathlib.Core.List.{List}
 use Prim.Native.Nat.{ℕ, _+_, _-_, _*_}
 use lib.Dec.{ltb, eqb}
-use lib.ListN.{drop}
+use lib.ListN.{take, drop}
 use lib.Ieee.{Float}
 use Rattle.tensor_laws.specs.Layout.{slot}
 use Rattle.call.specs.declared.Call.{Call}
 
--- the part of the two tensors that starts with position j's row of key head g in batch b
+-- a run of rows: the part of the two tensors that starts with position j's row of key head g in batch b
 unfoldable pub rowsFrom : Call → (past incoming : List Float) → (size b g j : ℕ) → List Float
 rowsFrom c past incoming size b g j =
     cond (ltb j (c .past)) (drop (slot 4 (c .kvheads) (c .past) b g j * size) past)
     (drop (slot (c .rank) (c .kvheads) (c .klen) b g (j - c .past) * size) incoming)
 
--- the distance from one position's row to the next there
+-- position j's row of key head g in batch b: the first elements of that part
+unfoldable pub rowAt : Call → (past incoming : List Float) → (size b g j : ℕ) → List Float
+unfolding rowsFrom
+rowAt c past incoming size b g j = take size (rowsFrom c past incoming size b g j)
+
+-- the distance from one position's row to the next in such a run
 unfoldable pub strideFrom : Call → (size j : ℕ) → ℕ
 strideFrom c size j = cond (ltb j (c .past)) size (cond (eqb (c .rank) 4) size (c .kvheads * size))
 

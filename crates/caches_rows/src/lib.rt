@@ -6,7 +6,7 @@ ghost use lib.ListN.{length};
 ghost use Rattle.tensor_laws.specs.Layout.{slot};
 ghost use Rattle.call.specs.Limits.{limitsHold};
 ghost use Rattle.caches.specs.Fits.{RowFits, CacheFits};
-ghost use Rattle.caches.specs.Rows.{rowsFrom, strideFrom};
+ghost use Rattle.caches.specs.Rows.{rowsFrom, rowAt, strideFrom};
 use call::Call;
 
 // Where the row of batch b, head h, position s starts in a tensor of either rank.
@@ -28,7 +28,7 @@ pub fn row_start(
     ((b * len + s) * heads + h) * size
 }
 
-// The part of the two lent tensors that starts with position j's row of key head g in batch b: the past cache's below P, the incoming tensor's from there on.
+// A run of rows, `row_stride` apart: the part of the two lent tensors that starts with position j's row of key head g in batch b, the past cache's below P, the incoming tensor's from there on.
 pub fn rows_from<'a>(
     call: Call,
     past: &'a [f32],
@@ -50,7 +50,24 @@ pub fn rows_from<'a>(
     &incoming[at..]
 }
 
-// The distance from one position's row to the next in the part that `rows_from` gives.
+// Position j's row of key head g in batch b: that part's first `size` elements.
+pub fn row_of<'a>(
+    call: Call,
+    past: &'a [f32],
+    incoming: &'a [f32],
+    size: usize,
+    b: usize,
+    g: usize,
+    j: usize,
+) -> &'a [f32]
+    requires { ⌜ CacheFits call (length (now past)) (length (now incoming)) size b g j ⌝ }
+    ensures { λ r. ⌜ now r ≡ rowAt call (now (past .entry)) (now (incoming .entry)) size b g j ⌝ }
+{
+    let rows = rows_from(call, past, incoming, size, b, g, j);
+    &rows[..size]
+}
+
+// The distance from one position's row to the next in the run that `rows_from` gives.
 pub fn row_stride(call: Call, size: usize, j: usize) -> usize
     requires { ⌜ limitsHold call ≡ true ⌝ }
     requires { ⌜ size ≤ 256 ⌝ }
