@@ -6,35 +6,29 @@ use native.Mathlib.Nat.{add-mul}
 use native.Mathlib.Omega.{arith}
 use lib.Arith.{digits-div, digits-mod}
 use lib.ListN.{take, drop}
-use lib.Seq.{getD-take, getD-drop}
-use lib.Ieee.{Float, nan, binary32, mul}
+use lib.Ieee.{Float, nan}
 use Rattle.tensor_laws.specs.Layout.{tabulate}
 use Rattle.tensor_laws.proofs.Tabulate.{tabulate-ext}
 use Rattle.tensor_laws.proofs.Tails.{partOf, getD-part}
-use Rattle.softmax.specs.Row.{inLane, laneOf}
+use Rattle.softmax.specs.Row.{laneOf}
 use Rattle.softmax.specs.Lists.{elementOf}
-use Rattle.softmax.proofs.Structure.{agree-sum}
+use Rattle.softmax.proofs.Structure.{agree-lane}
+use Rattle.softmax.proofs.Rows.{row-element}
 use Rattle.lanes.specs.Sums.{lanesOf, laneAt}
 
 -- lane l of key j stands at j * 4 + l
 pub lane-of-key : (q keys : List Float) (stride n j l : ℕ) → l < 4 → laneAt q keys stride n (j * 4 + l) ≡ laneOf l n (elementOf q) (λ c. elementOf keys (j * stride + c))
 lane-of-key q keys stride n j l h = λ i. laneOf (digits-mod j h i) n (elementOf q) (λ c. elementOf keys (digits-div j h i * stride + c))
 
--- a lane of n elements depends on those of a key alone
-lane-by-elements : (l n : ℕ) (q key other : ℕ → Float) → ((c : ℕ) → c < n → key c ≡ other c) → laneOf l n q key ≡ laneOf l n q other
-unfolding laneOf
-lane-by-elements l n q key other same =
-    agree-sum n (inLane l) (inLane l) (λ c. mul binary32 (q c) (key c)) (λ c. mul binary32 (q c) (other c)) (λ c h. refl) (λ c h t. ap (mul binary32 (q c)) (same c h))
-
 -- the lanes of key j, whose row is lent by itself
 pub lanes-of-key : (q keys : List Float) (stride n j at size : ℕ) → at ≡ j * stride → n ≤ size → lanesOf q (take size (drop at keys)) n ≡ tabulate 4 (λ l. laneAt q keys stride n (j * 4 + l))
 unfolding lanesOf
 lanes-of-key q keys stride n j at size start inside =
     tabulate-ext 4 (λ l. laneOf l n (elementOf q) (elementOf (take size (drop at keys)))) (λ l. laneAt q keys stride n (j * 4 + l))
-    (λ l h. lane-by-elements l n (elementOf q) (elementOf (take size (drop at keys))) (λ c. elementOf keys (j * stride + c)) element ∙ sym (lane-of-key q keys stride n j l h))
+    (λ l h. agree-lane l n (elementOf q) (elementOf q) (elementOf (take size (drop at keys))) (λ c. elementOf keys (j * stride + c)) (λ c g. refl) element ∙ sym (lane-of-key q keys stride n j l h))
   where
     element : (c : ℕ) → c < n → elementOf (take size (drop at keys)) c ≡ elementOf keys (j * stride + c)
-    element c h = getD-take size (drop at keys) c nan (omega (arith, inside)) ∙ getD-drop at keys c nan ∙ ap (λ (m : ℕ). elementOf keys (m + c)) start
+    element c h = row-element keys at size c (omega (arith, inside)) ∙ ap (λ (m : ℕ). elementOf keys (m + c)) start
 
 -- the lanes of four keys, one after the other
 four-in-order : (f : ℕ → Float) → tabulate 4 (λ l. f (0 * 4 + l)) ++ (tabulate 4 (λ l. f (1 * 4 + l)) ++ (tabulate 4 (λ l. f (2 * 4 + l)) ++ tabulate 4 (λ l. f (3 * 4 + l)))) ≡ tabulate 16 f

@@ -4,30 +4,19 @@ use Prim.Native.Nat.{ℕ, _+_, _*_, _≤_, _-_}
 use native.Mathlib.Omega.{arith}
 use borrow.Author.Needs.{needs}
 use mathlib.Core.List.{List}
-use lib.ListN.{length, take, drop, set}
-use lib.Seq.{getD-take, getD-drop}
+use lib.ListN.{length, set}
 use lib.Ieee.{Float, binary32, mul, nan}
 use Rattle.tensor_laws.proofs.InPlace.{indexedTo, indexed-next, length-indexedTo, indexed-all}
 use Rattle.tensor_laws.proofs.Parts.{length-part}
-use Rattle.tensor_laws.proofs.Tails.{partOf, getD-part}
-use Rattle.softmax.specs.Row.{dotOf, scoreOf}
-use Rattle.softmax.specs.Lists.{elementOf, dotRowOf, scoreRowsOf}
-use Rattle.softmax.proofs.Structure.{agree-dot}
-use Rattle.softmax.proofs.Rows.{dot-part}
+use Rattle.softmax.specs.Row.{scoreOf}
+use Rattle.softmax.specs.Lists.{elementOf, scoreRowsOf}
+use Rattle.softmax.proofs.Rows.{dot-row}
 use Rattle.scores.proofs.score_few.Statement.{statement}
 use Rattle.scores.proofs.score_few.Tie as tie
 
 -- what an element becomes: the score of key j
 abbrev eachOf : List Float → List Float → ℕ → Float → ℕ → Float → Float
 eachOf q keys stride scale j x = scoreOf (length q) (elementOf q) (λ c. elementOf keys (j * stride + c)) scale
-
--- the dot product with a row of n elements is that with the keys from its start on
-dot-row : (q keys : List Float) (at n : ℕ) → length q ≤ n → dotRowOf q (take n (drop at keys)) ≡ dotOf (length q) (elementOf q) (λ c. elementOf keys (at + c))
-unfolding dotRowOf
-dot-row q keys at n h =
-    agree-dot (length q) (elementOf q) (elementOf q) (elementOf (take n (drop at keys))) (elementOf (partOf at keys)) (λ c l. refl)
-    (λ c l. getD-take n (drop at keys) c nan (omega arith) ∙ getD-drop at keys c nan ∙ sym (getD-part at keys c nan))
-    ∙ dot-part q keys at
 
 abbrev Inv-loop : tie.InvT-loop
 Inv-loop q keys stride scale out₀ j₀ out j = (j ≤ length out₀) × (out ≡ indexedTo (eachOf q keys stride scale) j out₀)

@@ -5,23 +5,14 @@ use native.Mathlib.Omega.{arith}
 use borrow.Author.Needs.{needs}
 use mathlib.Core.List.{List}
 use lib.ListN.{length, take, drop}
-use lib.Seq.{getD-take, getD-drop}
-use lib.Ieee.{Float, nan, binary32, add, mul}
+use lib.Ieee.{Float, nan}
 use Rattle.tensor_laws.specs.Layout.{tabulate}
-use Rattle.tensor_laws.proofs.Tabulate.{length-tabulate, tabulate-ext, tabulate-getD}
+use Rattle.tensor_laws.proofs.Tabulate.{length-tabulate, tabulate-getD}
 use Rattle.tensor_laws.proofs.Parts.{length-part}
 use Rattle.softmax.specs.Lists.{elementOf, accumulatedOf, accumulatedRowOf, weightedRowsOf}
-use Rattle.tensor_laws.proofs.Tails.{partOf, getD-part}
 use Rattle.softmax.proofs.Rows.{columnOf, weighted-next}
 use Rattle.softmax_sum.proofs.weighted_rows.Statement.{statement}
 use Rattle.softmax_sum.proofs.weighted_rows.Tie as tie
-
--- a row of n values adds to as many columns what the values from its start on add
-row-added : (weight : Float) (values : List Float) (at n : ℕ) (out : List Float) → length out ≤ n → accumulatedRowOf weight (take n (drop at values)) out ≡ accumulatedRowOf weight (partOf at values) out
-unfolding accumulatedRowOf
-row-added weight values at n out h =
-    tabulate-ext (length out) _ _
-    (λ c l. ap (λ (x : Float). add binary32 (elementOf out c) (mul binary32 weight x)) (getD-take n (drop at values) c nan (omega arith) ∙ getD-drop at values c nan ∙ sym (getD-part at values c nan)))
 
 abbrev Inv-loop : tie.InvT-loop
 Inv-loop weights values stride out₀ j₀ out j = (j ≤ length weights) × (out ≡ tabulate (length out₀) (columnOf weights values stride out₀ j))
@@ -91,9 +82,8 @@ loop-again c =
     let n = length (a .loop .out) in (
       omega arith,
       c .before .before .accumulate .ensures
-          ∙ row-added (elementOf (s .weights .now) j) (s .values .now) at (at + n - at) (a .loop .out) (omega arith)
-          ∙ ap (λ (r : List Float). accumulatedRowOf (elementOf (s .weights .now) j) (partOf (j * s .stride) (s .values .now)) r) (a .loop .inv .1)
-          ∙ weighted-next (s .weights .now) (s .values .now) (s .stride) (s .out .now) j,
+          ∙ ap (λ (r : List Float). accumulatedRowOf (elementOf (s .weights .now) j) (take (at + n - at) (drop at (s .values .now))) r) (a .loop .inv .1)
+          ∙ weighted-next (s .weights .now) (s .values .now) (s .stride) (s .out .now) j (at + n - at) (omega (arith, as-long a)),
     )
 
 same-length : tie.Need-same-length Inv-loop μ-loop
