@@ -31,7 +31,7 @@ pub fn copy_head<'a>(
         let a = caches_rows::row_start(4, heads, total, size, b, g, j);
         let e = a + size;
         row_copies::copy_row(
-            caches_rows::rows_from(call, past, incoming, size, b, g, j),
+            caches_rows::row_of(call, past, incoming, size, b, g, j),
             &mut out[a..e],
         );
         j += 1;

@@ -5,11 +5,11 @@ ghost use lib.ListN.{length};
 ghost use Rattle.softmax.specs.Lists.{dotRowOf};
 ghost use Rattle.lanes.specs.Sums.{lanesOf};
 
-// The four lanes of the elements before `from`, which is a multiple of four, with the products of up to four elements more, each in its own lane.
+// The four lanes of two rows of the same length over the elements before `from`, which is a multiple of four, with the products of up to four elements more, each in its own lane.
 pub fn add_lanes(lanes: &mut [f32], q: &[f32], k: &[f32], from: usize, count: usize)
     requires { ⌜ now lanes ≡ lanesOf (now q) (now k) from ⌝ }
     requires { ⌜ (from % 4 ≡ 0) × (count ≤ 4) ⌝ }
-    requires { ⌜ (from + count ≤ length (now q)) × (from + count ≤ length (now k)) ⌝ }
+    requires { ⌜ (from + count ≤ length (now q)) × (length (now q) ≡ length (now k)) ⌝ }
     ensures { λ _. ⌜ now (lanes .exit) ≡ lanesOf (now (q .entry)) (now (k .entry)) (from + count) ⌝ }
 {
     let mut l = 0;
@@ -19,9 +19,9 @@ pub fn add_lanes(lanes: &mut [f32], q: &[f32], k: &[f32], from: usize, count: us
     }
 }
 
-// The dot product of a row with the start of another that is no shorter.
+// The dot product of two rows of the same length.
 pub fn dot(q: &[f32], k: &[f32]) -> f32
-    requires { ⌜ length (now q) ≤ length (now k) ⌝ }
+    requires { ⌜ length (now q) ≡ length (now k) ⌝ }
     ensures { λ r. ⌜ r ≡ dotRowOf (now (q .entry)) (now (k .entry)) ⌝ }
 {
     let mut lanes = [0.0; 4];

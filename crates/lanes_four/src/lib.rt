@@ -29,13 +29,18 @@ pub fn sum_four(q: &[f32], keys: &[f32], stride: usize, fours: usize, lanes: &mu
     let mut b = [0.0; 4];
     let mut c = [0.0; 4];
     let mut d = [0.0; 4];
+    let n = q.len();
+    let first = &keys[0..n];
+    let second = &keys[stride..stride + n];
+    let third = &keys[2 * stride..2 * stride + n];
+    let fourth = &keys[3 * stride..3 * stride + n];
     let mut m = 0;
     while m < fours {
         let i = m * 4;
-        lanes_dot::add_lanes(&mut a, q, keys, i, 4);
-        lanes_dot::add_lanes(&mut b, q, &keys[stride..], i, 4);
-        lanes_dot::add_lanes(&mut c, q, &keys[2 * stride..], i, 4);
-        lanes_dot::add_lanes(&mut d, q, &keys[3 * stride..], i, 4);
+        lanes_dot::add_lanes(&mut a, q, first, i, 4);
+        lanes_dot::add_lanes(&mut b, q, second, i, 4);
+        lanes_dot::add_lanes(&mut c, q, third, i, 4);
+        lanes_dot::add_lanes(&mut d, q, fourth, i, 4);
         m += 1;
     }
     store_four(&a, &b, &c, &d, lanes);

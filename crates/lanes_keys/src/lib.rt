@@ -39,9 +39,10 @@ pub fn sum_rest(q: &[f32], keys: &[f32], stride: usize, lanes: &mut [f32])
     let mut j = 0;
     while j < n {
         let at = j * stride;
+        let end = at + q.len();
         let a = j * 4;
         let e = a + 4;
-        lanes_dot::add_lanes(&mut lanes[a..e], q, &keys[at..], from, count);
+        lanes_dot::add_lanes(&mut lanes[a..e], q, &keys[at..end], from, count);
         j += 1;
     }
 }

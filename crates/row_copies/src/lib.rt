@@ -1,9 +1,6 @@
-// A row that is filled with one number, and one that becomes the start of another. Rows are parts of the caller's slices, read and written where they stand.
+// A row that is filled with one number, and one that becomes another. Rows are parts of the caller's slices, read and written where they stand.
 ghost use mathlib.Core.Path.{_≡_};
-ghost use Prim.Native.Nat.{_≤_};
 ghost use lib.ListN.{length, replicate};
-ghost use Rattle.tensor_laws.specs.Layout.{tabulate};
-ghost use Rattle.softmax.specs.Lists.{elementOf};
 
 // Every element becomes x.
 pub fn fill_row(row: &mut [f32], x: f32)
@@ -16,10 +13,10 @@ pub fn fill_row(row: &mut [f32], x: f32)
     }
 }
 
-// The elements become the first of another row that is no shorter.
+// The elements become those of another row of the same length.
 pub fn copy_row(from: &[f32], to: &mut [f32])
-    requires { ⌜ length (now to) ≤ length (now from) ⌝ }
-    ensures { λ _. ⌜ now (to .exit) ≡ tabulate (length (now (to .entry))) (elementOf (now (from .entry))) ⌝ }
+    requires { ⌜ length (now to) ≡ length (now from) ⌝ }
+    ensures { λ _. ⌜ now (to .exit) ≡ now (from .entry) ⌝ }
 {
     let mut i = 0;
     while i < to.len() {

@@ -35,7 +35,7 @@ fn weigh_run<'a>(
     }
     let size = call.vsize;
     let kind = call.mask;
-    let values = caches_rows::rows_from(call, past, incoming, size, b, g, from);
+    let values = caches_rows::run_of(call, past, incoming, size, b, g, from, weights.len());
     let stride = caches_rows::row_stride(call, size, from);
     admitted_sum::weigh_admitted(
         kind,

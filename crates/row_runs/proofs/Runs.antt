@@ -1,4 +1,4 @@
--- A run of positions of one key head that stand in one of the two tensors: their rows are within the part that starts with the first, and the scores and the weighted sum over that part are those of the positions. Assumes nothing.
+-- A run of positions of one key head that stand in one of the two tensors: their rows are within the part that is lent, and the scores and the weighted sum over that part are those of the positions. Assumes nothing.
 use mathlib.Core.Path.{_≡_, refl, ap, _∙_}
 use mathlib.Core.Bool.{Bool}
 use mathlib.Core.List.{List}
@@ -17,8 +17,8 @@ use Rattle.call.specs.declared.Call.{Call}
 use Rattle.call.specs.Limits.{totalOf}
 use Rattle.attention.specs.Elements.{positionCell}
 use Rattle.caches.specs.Fits.{CacheFits}
-use Rattle.caches.specs.Rows.{rowsFrom, strideFrom}
-use Rattle.caches.proofs.Positions.{rows-from-cell, rows-from-inside}
+use Rattle.caches.specs.Rows.{strideFrom, runAt}
+use Rattle.caches.proofs.Positions.{row-in-run, run-cell}
 use Rattle.admitted_sum.specs.Sums.{addedRowOf}
 use Rattle.tensor_laws.proofs.Tails.{partOf, length-part, getD-part}
 use Rattle.admitted_sum.proofs.Added.{added-row-agree, added-row-runs}
@@ -45,27 +45,24 @@ module _ (c : Call) (pastLength incomingLength size b g n cut : ℕ) (f : RunFit
       go h (no m) = omega arith
 
 module _ (c : Call) (past incoming : List Float) (size b g from n : ℕ) (f : RunFits c (length past) (length incoming) size b g from n) where
-  together : (j : ℕ) → j < n → from < c .past → from + j < c .past
-  together j l h = omega (arith, f .together h)
-
   -- each row ends inside the part
-  pub run-inside : (j : ℕ) → j < n → j * strideFrom c size from + size ≤ length (rowsFrom c past incoming size b g from)
-  run-inside j l = rows-from-inside c past incoming size b g from j (together j l) (run-start f (omega arith)) (omega (arith, f .inside))
+  pub run-inside : (j : ℕ) → j < n → j * strideFrom c size from + size ≤ length (runAt c past incoming size b g from n)
+  run-inside j l = let some : 0 < n = omega arith in row-in-run c past incoming size b g from n some (f .together) (run-start f some) (f .inside) j l
 
   -- and has the elements of its position
-  pub run-cell : (j : ℕ) → j < n → (k : ℕ) → elementOf (rowsFrom c past incoming size b g from) (j * strideFrom c size from + k) ≡ positionCell c past incoming size b g (from + j) k
-  run-cell j l k = rows-from-cell c past incoming size b g from j (together j l) k
+  cell : (j : ℕ) → j < n → (k : ℕ) → k < size → elementOf (runAt c past incoming size b g from n) (j * strideFrom c size from + k) ≡ positionCell c past incoming size b g (from + j) k
+  cell j l k h = let some : 0 < n = omega arith in run-cell c past incoming size b g from n some (f .together) j l k h
 
   pub run-scores : (q : List Float) (scale : Float) → length q ≡ size
-      → scoreRowsOf q (rowsFrom c past incoming size b g from) (strideFrom c size from) scale n ≡ tabulate n (λ j. scoreOf size (elementOf q) (positionCell c past incoming size b g (from + j)) scale)
-  run-scores q scale l = scores-by-keys q (rowsFrom c past incoming size b g from) (strideFrom c size from) scale n size (λ j. positionCell c past incoming size b g (from + j)) l (λ j h k m. run-cell j h k)
+      → scoreRowsOf q (runAt c past incoming size b g from n) (strideFrom c size from) scale n ≡ tabulate n (λ j. scoreOf size (elementOf q) (positionCell c past incoming size b g (from + j)) scale)
+  run-scores q scale l = scores-by-keys q (runAt c past incoming size b g from n) (strideFrom c size from) scale n size (λ j. positionCell c past incoming size b g (from + j)) l cell
 
-  pub run-weighed : (sees : ℕ → Bool) (weight : ℕ → Float) (out : List Float)
-      → addedRowOf n sees weight (λ j k. elementOf (rowsFrom c past incoming size b g from) (j * strideFrom c size from + k)) out
+  pub run-weighed : (sees : ℕ → Bool) (weight : ℕ → Float) (out : List Float) → length out ≡ size
+      → addedRowOf n sees weight (λ j k. elementOf (runAt c past incoming size b g from n) (j * strideFrom c size from + k)) out
       ≡ addedRowOf n sees weight (λ j k. positionCell c past incoming size b g (from + j) k) out
-  run-weighed sees weight out =
-      added-row-agree n sees sees weight weight (λ j k. elementOf (rowsFrom c past incoming size b g from) (j * strideFrom c size from + k)) (λ j k. positionCell c past incoming size b g (from + j) k) out
-      (λ j l. refl) (λ j l. refl) (λ j l k m. run-cell j l k)
+  run-weighed sees weight out e =
+      added-row-agree n sees sees weight weight (λ j k. elementOf (runAt c past incoming size b g from n) (j * strideFrom c size from + k)) (λ j k. positionCell c past incoming size b g (from + j) k) out
+      (λ j l. refl) (λ j l. refl) (λ j l k m. cell j l k (omega arith))
 
 -- the weighted sum over the first positions, and then over the others, is that over all
 pub two-runs : (weights : List Float) (cut : ℕ) (sees : ℕ → Bool) (value : ℕ → ℕ → Float) (out : List Float) → cut ≤ length weights

@@ -38,7 +38,7 @@ fn score_run<'a>(
         return;
     }
     let size = call.size;
-    let keys = caches_rows::rows_from(call, past, incoming, size, b, g, from);
+    let keys = caches_rows::run_of(call, past, incoming, size, b, g, from, row.len());
     let stride = caches_rows::row_stride(call, size, from);
     scores::score_rows(q, keys, stride, scale, row);
 }

@@ -45,7 +45,8 @@ fn score_few(q: &[f32], keys: &[f32], stride: usize, scale: f32, out: &mut [f32]
     let mut j = 0;
     while j < out.len() {
         let at = j * stride;
-        out[j] = lanes_dot::dot(q, &keys[at..]) * scale;
+        let e = at + q.len();
+        out[j] = lanes_dot::dot(q, &keys[at..e]) * scale;
         j += 1;
     }
 }

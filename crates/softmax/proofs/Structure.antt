@@ -133,7 +133,7 @@ cut-output m n sees score value h hides =
     (λ j l s. product-agrees (weightOf n sees score j) (weightOf m sees score j) (value j) (value j) (cut-weight m n sees score j h hides) refl)
 
 -- rows with equal elements have the same lanes
-agree-lane : (l n : ℕ) (q q' k k' : ℕ → Float) → ((c : ℕ) → c < n → q c ≡ q' c) → ((c : ℕ) → c < n → k c ≡ k' c) → laneOf l n q k ≡ laneOf l n q' k'
+pub agree-lane : (l n : ℕ) (q q' k k' : ℕ → Float) → ((c : ℕ) → c < n → q c ≡ q' c) → ((c : ℕ) → c < n → k c ≡ k' c) → laneOf l n q k ≡ laneOf l n q' k'
 unfolding laneOf
 agree-lane l n q q' k k' a b =
     agree-sum n (inLane l) (inLane l) (λ c. mul binary32 (q c) (k c)) (λ c. mul binary32 (q' c) (k' c)) (λ c h. refl) (λ c h t. product-agrees (q c) (q' c) (k c) (k' c) (a c h) (b c h))

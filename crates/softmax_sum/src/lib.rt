@@ -4,9 +4,9 @@ ghost use Prim.Native.Nat.{ℕ, _+_, _*_, _≤_, _<_};
 ghost use lib.ListN.{length};
 ghost use Rattle.softmax.specs.Lists.{accumulatedRowOf, weightedRowsOf};
 
-// The output row with weight * value added in each column.
+// The output row with weight * value added in each column; `value` is a row of the same length.
 fn accumulate(out: &mut [f32], weight: f32, value: &[f32])
-    requires { ⌜ length (now out) ≤ length (now value) ⌝ }
+    requires { ⌜ length (now value) ≡ length (now out) ⌝ }
     ensures { λ _. ⌜ now (out .exit) ≡ accumulatedRowOf weight (now (value .entry)) (now (out .entry)) ⌝ }
 {
     let mut c = 0;
@@ -24,7 +24,8 @@ pub fn weighted_rows(weights: &[f32], values: &[f32], stride: usize, out: &mut [
     let mut j = 0;
     while j < weights.len() {
         let at = j * stride;
-        accumulate(out, weights[j], &values[at..]);
+        let e = at + out.len();
+        accumulate(out, weights[j], &values[at..e]);
         j += 1;
     }
 }

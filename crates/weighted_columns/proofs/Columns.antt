@@ -24,10 +24,6 @@ module _ (weights values : List Float) (stride : ℕ) (out : List Float) where
   unfolding weightedRowsOf
   columns-long = length-tabulate (length out) (columnAt weights values stride out)
 
-  -- copied element by element
-  pub columns-copied : tabulate (length out) (elementOf (weightedRowsOf weights values stride out)) ≡ weightedRowsOf weights values stride out
-  columns-copied = ap (λ (n : ℕ). tabulate n (elementOf (weightedRowsOf weights values stride out))) (sym columns-long) ∙ tabulate-getD (weightedRowsOf weights values stride out) nan
-
   -- those from c on, of which r has the elements
   pub columns-from : (c n : ℕ) (r : List Float) → length r ≡ n → ((i : ℕ) → i < n → elementOf r i ≡ elementOf out (c + i))
       → weightedRowsOf weights (partOf c values) stride r ≡ tabulate n (λ i. columnAt weights values stride out (c + i))

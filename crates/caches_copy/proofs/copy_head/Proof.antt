@@ -7,7 +7,6 @@ use mathlib.Core.List.{List}
 use lib.ListN.{length, getD, take, drop}
 use lib.Ieee.{Float, nan}
 use Rattle.tensor_laws.specs.Layout.{writtenOf}
-use Rattle.tensor_laws.proofs.Tabulate.{length-tabulate, getD-tabulate}
 use Rattle.tensor_laws.proofs.Parts.{length-part, withPart}
 use Rattle.tensor_laws.proofs.Written.{length-written, written-none, written-same, written-row}
 use Rattle.softmax.specs.Lists.{elementOf}
@@ -15,9 +14,9 @@ use Rattle.call.specs.Limits.{totalOf}
 use Rattle.call.proofs.Facts.{limits→facts}
 use Rattle.attention.specs.Elements.{positionCell}
 use Rattle.caches.specs.Fits.{CacheFits}
-use Rattle.caches.specs.Rows.{inHead}
+use Rattle.caches.specs.Rows.{rowAt, inHead}
 use Rattle.caches.proofs.Starts.{read-row, written-row-fits, written-row-end}
-use Rattle.caches.proofs.Positions.{row-cell, row-long-enough}
+use Rattle.caches.proofs.Positions.{row-long, row-cell}
 use Rattle.caches.proofs.Heads.{headBefore, before-none, before-all, before-same, before-other}
 use Rattle.caches_copy.proofs.copy_head.Statement.{statement}
 use Rattle.caches_copy.proofs.copy_head.Tie as tie
@@ -77,8 +76,8 @@ inside c =
 add-e : tie.Need-add-e Inv-loop μ-loop
 add-e c = omega (arith, inside c, as-long (c .before .before))
 
-rows-from-requires : tie.Need-rows-from-requires Inv-loop μ-loop
-rows-from-requires c κs = reads-row (c .before)
+row-of-requires : tie.Need-row-of-requires Inv-loop μ-loop
+row-of-requires c κs = reads-row (c .before)
 
 mul-copy-row : tie.Need-mul-copy-row Inv-loop μ-loop
 mul-copy-row c = omega (arith, inside (c .before), as-long (c .before .before .before))
@@ -105,9 +104,8 @@ copy-row-requires : tie.Need-copy-row-requires Inv-loop μ-loop
 copy-row-requires c κs =
     let r = c .before .before in
     let a = r .before .before .before .before .before .before .before .args in
-    let n = part-length r in
-    let w = row-long-enough (a .call) (a .past .now) (a .incoming .now) (a .size) (a .b) (a .g) (r .before .before .loop .j) (reads-row (r .before)) in
-    omega (arith, ap length (c .before .rows-from .ensures))
+    part-length r
+    ∙ sym (ap length (c .before .row-of .ensures) ∙ row-long (a .call) (a .past .now) (a .incoming .now) (a .size) (a .b) (a .g) (r .before .before .loop .j) (reads-row (r .before)))
 
 add-j : tie.Need-add-j Inv-loop μ-loop
 add-j c =
@@ -125,15 +123,10 @@ loop-again c =
     let s = r .before .before .before .before .before .before .before in
     let a = s .args in
     let row = c .before .before .copy-row .last .1 .0 in
-    let n = part-length r in
-    let e = c .before .before .copy-row .ensures in
-    let from = c .before .before .before .before .rows-from in
-    let long : length row ≡ a .size = ap length e ∙ length-tabulate _ (elementOf (from .result .now)) ∙ n in
+    let e : row ≡ rowAt (a .call) (a .past .now) (a .incoming .now) (a .size) (a .b) (a .g) (l .j) = c .before .before .copy-row .ensures ∙ c .before .before .before .before .row-of .ensures in
+    let long : length row ≡ a .size = ap length e ∙ row-long (a .call) (a .past .now) (a .incoming .now) (a .size) (a .b) (a .g) (l .j) (reads-row (r .before)) in
     let cells : (k : ℕ) → k < a .size → getD row k nan ≡ positionCell (a .call) (a .past .now) (a .incoming .now) (a .size) (a .b) (a .g) (l .j) k =
-    λ k h. ap (λ (t : List Float). elementOf t k) e
-    ∙ getD-tabulate _ (elementOf (from .result .now)) k nan (omega arith)
-    ∙ ap (λ (t : List Float). elementOf t k) (from .ensures)
-    ∙ row-cell (a .call) (a .past .now) (a .incoming .now) (a .size) (a .b) (a .g) (l .j) k in (
+    λ k h. ap (λ (t : List Float). elementOf t k) e ∙ row-cell (a .call) (a .past .now) (a .incoming .now) (a .size) (a .b) (a .g) (l .j) k h in (
       omega arith,
       ap (λ (t : List Float). withPart (r .row-start .result) (r .row-start .result + a .size - r .row-start .result) t row) (l .inv .1)
           ∙ written-row 4 (a .call .batches) (a .call .kvheads) (totalOf (a .call)) (a .size) (positionCell (a .call) (a .past .now) (a .incoming .now) (a .size)) nan (a .out .now) (headBefore (a .b) (a .g) (l .j)) (headBefore (a .b) (a .g) (l .j + 1)) (a .b) (a .g) (l .j) row long (s .pre .1 .0) (s .pre .1 .1) (omega arith) cells (before-same (a .b) (a .g) (l .j)) (λ b′ h′ s′ hb hh hs x. before-other (a .b) (a .g) (a .call .kvheads) (totalOf (a .call)) (l .j) b′ h′ s′ x) (r .row-start .result) (r .row-start .result + a .size - r .row-start .result) (r .row-start .ensures) (omega arith),
@@ -160,7 +153,7 @@ copy-head-spec =
     loop-holds
     row-start-requires
     add-e
-    rows-from-requires
+    row-of-requires
     mul-copy-row
     sub-copy-row
     part-copy-row-start

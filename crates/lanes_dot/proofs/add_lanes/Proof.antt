@@ -33,7 +33,7 @@ in-query : (c : tie.In-loop Inv-loop μ-loop) → c .before .before .args .from 
 in-query c = omega (arith, c .loop-test .taken, c .before .before .pre .1 .1 .0)
 
 in-key : (c : tie.In-loop Inv-loop μ-loop) → c .before .before .args .from + c .before .loop .l < length (c .before .before .args .k .now)
-in-key c = omega (arith, c .loop-test .taken, c .before .before .pre .1 .1 .1)
+in-key c = omega (arith, in-query c, c .before .before .pre .1 .1 .1)
 
 mul-lanes : tie.Need-mul-lanes Inv-loop μ-loop
 mul-lanes c = omega (arith, below-four c)

@@ -56,7 +56,7 @@ add-lanes-requires : tie.Need-add-lanes-requires Inv-loop μ-loop
 add-lanes-requires c κs =
     let a = c .before .before in
     let inside : a .loop .m * 4 + 4 ≤ length (a .before .before .before .args .q .now) = omega (arith, c .before .loop-test .taken, fours-inside a) in
-    (a .loop .inv .1, ((mul-mod-left (a .loop .m) 4, omega arith), (inside, omega (arith, inside, a .before .before .before .pre))))
+    (a .loop .inv .1, ((mul-mod-left (a .loop .m) 4, omega arith), (inside, a .before .before .before .pre)))
 
 add-m : tie.Need-add-m Inv-loop μ-loop
 add-m c = let a = c .before .before .before .before in omega (arith, c .before .before .before .loop-test .taken, fours-inside a, room a)
@@ -92,7 +92,7 @@ add-lanes-requires-2 c κs =
     let split : n / 4 * 4 + n % 4 ≡ n = div-add-mod' n 4 in
     let below : n % 4 < 4 = mod-lt n (lit< tt) in
     let inside : a .loop .m * 4 + (n - a .loop .m * 4) ≤ n = omega (arith, e, fours-inside a) in
-    (a .loop .inv .1, ((mul-mod-left (a .loop .m) 4, omega (arith, e, split, below)), (inside, omega (arith, inside, a .before .before .before .pre))))
+    (a .loop .inv .1, ((mul-mod-left (a .loop .m) 4, omega (arith, e, split, below)), (inside, a .before .before .before .pre)))
 
 array-read-result : tie.Need-array-read-result Inv-loop μ-loop
 array-read-result c = search needs

@@ -1,5 +1,7 @@
 -- `lanes_four::store_four` meets its contract. Assumes nothing.
+use mathlib.Core.Path.{_∙_}
 use borrow.Author.Needs.{needs}
+use Rattle.tensor_laws.proofs.Parts.{withPart}
 use Rattle.lanes.proofs.Stored.{four-stored}
 use Rattle.lanes_four.proofs.store_four.Statement.{statement}
 use Rattle.lanes_four.proofs.store_four.Tie as tie
@@ -63,7 +65,8 @@ returns c =
     let first = second .before .before .before .before in
     let start = first .before .before .before .before .before .before .before in
     let s = start .args in
-    four-stored (s .out .now) (s .a .now) (s .b .now) (s .c .now) (s .d .now) _ _ _ _ (start .pre .1) (start .pre .0) (first .copy-row .ensures) (second .copy-row2 .ensures) (third .copy-row3 .ensures) (fourth .copy-row4 .ensures)
+    (λ i. withPart 12 4 (withPart 8 4 (withPart 4 4 (withPart 0 4 (s .out .now) (first .copy-row .ensures i)) (second .copy-row2 .ensures i)) (third .copy-row3 .ensures i)) (fourth .copy-row4 .ensures i))
+    ∙ four-stored (s .out .now) (s .a .now) (s .b .now) (s .c .now) (s .d .now) (start .pre .1) (start .pre .0)
 
 pub store-four-spec : {M : Type 1} → statement M
 store-four-spec =

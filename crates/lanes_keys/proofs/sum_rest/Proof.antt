@@ -2,7 +2,7 @@
 use mathlib.Core.Path.{_≡_, refl, sym, ap, _∙_}
 use mathlib.Core.List.{List, _++_, append-nil}
 use Prim.Native.Nat.{ℕ, _+_, _*_, _/_, _-_, _^_, _≤_, _<_}
-use native.Mathlib.Nat.{mul-mod-left, div-mul-le-self}
+use native.Mathlib.Nat.{le-refl, mul-mod-left, div-mul-le-self}
 use native.Mathlib.Omega.{arith}
 use borrow.Author.Needs.{needs}
 use lib.ListN.{length, take, drop}
@@ -10,12 +10,11 @@ use lib.Seq.{drop-length}
 use lib.Ieee.{Float, nan}
 use Rattle.tensor_laws.specs.Layout.{tabulate}
 use Rattle.tensor_laws.proofs.Tabulate.{length-tabulate, getD-tabulate, tabulate-ext, tabulate-getD}
-use Rattle.tensor_laws.proofs.Parts.{withPart, length-part as length-middle}
-use Rattle.tensor_laws.proofs.Tails.{partOf, length-part, getD-part, length-first}
+use Rattle.tensor_laws.proofs.Parts.{withPart, length-part}
+use Rattle.tensor_laws.proofs.Tails.{length-first}
 use Rattle.tensor_laws.proofs.Blocks.{writtenTo, block-more, getD-unwritten}
 use Rattle.softmax.specs.Lists.{elementOf}
-use Rattle.lanes.specs.Sums.{lanesOf}
-use Rattle.lanes.specs.Sums.{laneAt}
+use Rattle.lanes.specs.Sums.{lanesOf, laneAt}
 use Rattle.lanes.proofs.Keys.{lanes-of-key}
 use Rattle.lanes_keys.proofs.sum_rest.Statement.{statement}
 use Rattle.lanes_keys.proofs.sum_rest.Tie as tie
@@ -85,6 +84,9 @@ keys-room c = startOf (c .before) .good .1 .0 .1
 mul-at : tie.Need-mul-at Inv-loop μ-loop
 mul-at c = omega (arith, key-inside c, keys-room c)
 
+add-end : tie.Need-add-end Inv-loop μ-loop
+add-end c = omega (arith, key-inside c, keys-room c)
+
 mul-a : tie.Need-mul-a Inv-loop μ-loop
 mul-a c = omega (arith, lanes-inside c, lanes-room c)
 
@@ -113,14 +115,14 @@ part-add-lanes-start-2 : tie.Need-part-add-lanes-start-2 Inv-loop μ-loop
 part-add-lanes-start-2 c = omega (arith, key-inside (c .before))
 
 part-add-lanes-end-2 : tie.Need-part-add-lanes-end-2 Inv-loop μ-loop
-part-add-lanes-end-2 c = search needs
+part-add-lanes-end-2 c = omega (arith, key-inside (c .before))
 
 -- the lanes that are lent, and the row of their key
 abbrev lentOf : Turn → List Float
 lentOf c = let j = c .before .loop .j in take (j * 4 + 4 - j * 4) (drop (j * 4) (c .before .loop .lanes))
 
 abbrev keyOf : Turn → List Float
-keyOf c = let s = startOf (c .before) .args in partOf (c .before .loop .j * s .stride) (s .keys .now)
+keyOf c = let s = startOf (c .before) .args in let at = c .before .loop .j * s .stride in take (at + length (s .q .now) - at) (drop at (s .keys .now))
 
 -- there are four
 lent-four : (c : Turn) → length (lentOf c) ≡ 4
@@ -128,14 +130,24 @@ lent-four c =
     let a = c .before in
     let at = a .loop .j * 4 in
     let e : at + 4 - at ≡ 4 = omega arith in
-    ap (λ (k : ℕ). length (take k (drop at (a .loop .lanes)))) e ∙ length-middle at 4 (a .loop .lanes) (omega (arith, lanes-inside c, as-long a))
+    ap (λ (k : ℕ). length (take k (drop at (a .loop .lanes)))) e ∙ length-part at 4 (a .loop .lanes) (omega (arith, lanes-inside c, as-long a))
 
 -- the lanes of key j over the first n elements, among those of all keys
-key-lanes : (c : Turn) (n : ℕ) → let s = startOf (c .before) .args in lanesOf (s .q .now) (keyOf c) n ≡ tabulate 4 (λ l. laneAt (s .q .now) (s .keys .now) (s .stride) n (c .before .loop .j * 4 + l))
-key-lanes c n =
+key-lanes : (c : Turn) (n : ℕ) → let s = startOf (c .before) .args in n ≤ length (s .q .now) → lanesOf (s .q .now) (keyOf c) n ≡ tabulate 4 (λ l. laneAt (s .q .now) (s .keys .now) (s .stride) n (c .before .loop .j * 4 + l))
+key-lanes c n h =
     let j = c .before .loop .j in
     let s = startOf (c .before) .args in
-    lanes-of-key (s .q .now) (s .keys .now) (keyOf c) (s .stride) n j (λ i. getD-part (j * s .stride) (s .keys .now) i nan)
+    let at = j * s .stride in
+    lanes-of-key (s .q .now) (s .keys .now) (s .stride) n j at (at + length (s .q .now) - at) refl (omega arith)
+
+-- the row of key j is as long as the query's
+key-long : (c : Turn) → length (startOf (c .before) .args .q .now) ≡ length (keyOf c)
+key-long c =
+    let s = startOf (c .before) .args in
+    let at = c .before .loop .j * s .stride in
+    let n = length (s .q .now) in
+    let e : at + n - at ≡ n = omega arith in
+    sym (length-part at (at + n - at) (s .keys .now) (omega (arith, key-inside c)) ∙ e)
 
 -- each is as it came, over the fours
 lent-lane : (c : Turn) (l : ℕ) → l < 4 → let s = startOf (c .before) .args in elementOf (lentOf c) l ≡ laneAt (s .q .now) (s .keys .now) (s .stride) (length (s .q .now) / 4 * 4) (c .before .loop .j * 4 + l)
@@ -155,7 +167,7 @@ lent-lanes c =
     sym (tabulate-getD (lentOf c) nan)
     ∙ ap (λ (m : ℕ). tabulate m (elementOf (lentOf c))) (lent-four c)
     ∙ tabulate-ext 4 (elementOf (lentOf c)) (λ l. laneAt (s .q .now) (s .keys .now) (s .stride) fours (c .before .loop .j * 4 + l)) (lent-lane c)
-    ∙ sym (key-lanes c fours)
+    ∙ sym (key-lanes c fours (div-mul-le-self (length (s .q .now)) 4))
 
 -- the fours and what is left of the row
 row-split : (n : ℕ) → n / 4 * 4 + (n - n / 4 * 4) ≡ n
@@ -170,7 +182,7 @@ add-lanes-requires c κs =
     let a = t .before in
     let s = startOf a .args in
     let n = length (s .q .now) in
-    (lent-lanes t, ((mul-mod-left (n / 4) 4, few-left n), (omega (arith, row-split n), omega (arith, row-split n, key-inside t, length-part (a .loop .j * s .stride) (s .keys .now)))))
+    (lent-lanes t, ((mul-mod-left (n / 4) 4, few-left n), (omega (arith, row-split n), key-long t)))
 
 add-j : tie.Need-add-j Inv-loop μ-loop
 add-j c = let t = c .before .before .before .before .before in omega (arith, lanes-inside t, lanes-room t)
@@ -180,7 +192,7 @@ loop-less c = let t = c .before .before .before .before .before in omega (arith,
 
 -- what comes back, over the whole row
 summed : (c : Turn) (r : List Float) → let s = startOf (c .before) .args in let n = length (s .q .now) in r ≡ lanesOf (s .q .now) (keyOf c) (n / 4 * 4 + (n - n / 4 * 4)) → r ≡ tabulate 4 (λ l. wholeAt (startOf (c .before)) (c .before .loop .j * 4 + l))
-summed c r e = let s = startOf (c .before) .args in let n = length (s .q .now) in e ∙ ap (lanesOf (s .q .now) (keyOf c)) (row-split n) ∙ key-lanes c n
+summed c r e = let s = startOf (c .before) .args in let n = length (s .q .now) in e ∙ ap (lanesOf (s .q .now) (keyOf c)) (row-split n) ∙ key-lanes c n (le-refl n)
 
 loop-again : tie.Need-loop-again Inv-loop μ-loop
 loop-again c =
@@ -223,6 +235,7 @@ sum-rest-spec =
     returns
     loop-holds
     mul-at
+    add-end
     mul-a
     add-e
     mul-add-lanes

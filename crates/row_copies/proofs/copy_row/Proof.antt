@@ -4,16 +4,17 @@ use Prim.Native.Nat.{ℕ, _≤_, _-_}
 use native.Mathlib.Omega.{arith}
 use borrow.Author.Needs.{needs}
 use mathlib.Core.List.{List}
-use lib.ListN.{length, set}
+use lib.ListN.{length, getD, set}
 use lib.Ieee.{Float, nan}
+use Rattle.tensor_laws.specs.Layout.{tabulate}
+use Rattle.tensor_laws.proofs.Tabulate.{tabulate-getD}
 use Rattle.tensor_laws.proofs.InPlace.{indexedTo, indexed-next, length-indexedTo, indexed-all}
-use Rattle.softmax.specs.Lists.{elementOf}
 use Rattle.row_copies.proofs.copy_row.Statement.{statement}
 use Rattle.row_copies.proofs.copy_row.Tie as tie
 
 -- what an element becomes
 abbrev eachOf : List Float → ℕ → Float → Float
-eachOf from i x = elementOf from i
+eachOf from i x = getD from i nan
 
 abbrev Inv-loop : tie.InvT-loop
 Inv-loop from to₀ i₀ to i = (i ≤ length to₀) × (to ≡ indexedTo (eachOf from) i to₀)
@@ -52,7 +53,7 @@ loop-again c =
     let s = a .before .args in
     let n = as-long a in (
       omega arith,
-      ap (λ (r : List Float). set r (a .loop .i) (elementOf (s .from .now) (a .loop .i))) (a .loop .inv .1) ∙ indexed-next (eachOf (s .from .now)) nan (a .loop .i) (s .to .now) (omega arith),
+      ap (λ (r : List Float). set r (a .loop .i) (getD (s .from .now) (a .loop .i) nan)) (a .loop .inv .1) ∙ indexed-next (eachOf (s .from .now)) nan (a .loop .i) (s .to .now) (omega arith),
     )
 
 same-length : tie.Need-same-length Inv-loop μ-loop
@@ -63,7 +64,10 @@ returns c =
     let a = c .before in
     let s = a .before .args in
     let n = as-long a in
-    a .loop .inv .1 ∙ indexed-all (eachOf (s .from .now)) nan (a .loop .i) (s .to .now) (omega arith)
+    a .loop .inv .1
+    ∙ indexed-all (eachOf (s .from .now)) nan (a .loop .i) (s .to .now) (omega arith)
+    ∙ ap (λ (m : ℕ). tabulate m (λ k. getD (s .from .now) k nan)) (a .before .pre)
+    ∙ tabulate-getD (s .from .now) nan
 
 pub copy-row-spec : {M : Type 1} → statement M
 copy-row-spec =

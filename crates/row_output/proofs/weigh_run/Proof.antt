@@ -1,4 +1,4 @@
--- `row_output::weigh_run` meets its contract: the part that starts with the first position's row has the rows of all of them, a stride apart. Assumes nothing.
+-- `row_output::weigh_run` meets its contract: the part that is lent has the rows of all positions, a stride apart. Assumes nothing.
 use mathlib.Core.Path.{sym, ap, _∙_, subst}
 use mathlib.Core.Bool.{Bool}
 use mathlib.Core.List.{List}
@@ -10,7 +10,7 @@ use lib.Ieee.{Float}
 use Rattle.softmax.specs.Lists.{elementOf}
 use Rattle.attention.specs.Elements.{positionCell}
 use Rattle.attention.specs.Admission.{repeated}
-use Rattle.caches.specs.Rows.{rowsFrom}
+use Rattle.caches.specs.Rows.{runAt}
 use Rattle.admitted_sum.specs.Sums.{admittedBy, addedRowOf}
 use Rattle.admitted_sum.proofs.Added.{added-row-none}
 use Rattle.row_runs.proofs.Runs.{run-start, run-inside, run-weighed}
@@ -36,22 +36,22 @@ returns c =
 some : (c : tie.Else1) → 0 < length (c .before .before .before .before .before .before .before .args .weights .now)
 some c = omega (arith, c .if1 .left)
 
-rows-from-requires : tie.Need-rows-from-requires
-rows-from-requires c κs = run-start (c .before .before .before .before .before .before .before .pre .1 .0) (some c)
+run-of-requires : tie.Need-run-of-requires
+run-of-requires c κs = let f = c .before .before .before .before .before .before .before .pre .1 .0 in (run-start f (some c), (some c, f .together, f .inside))
 
 row-stride-requires : tie.Need-row-stride-requires
 row-stride-requires c κs = let f = c .before .before .before .before .before .before .before .before .pre .1 .0 in (f .limits, f .size-most)
 
 -- each row ends inside the part
 inside : (c : tie.After-row-stride) → (j : ℕ) → let s = c .before .before .before .before .before .before .before .before .before .args in
-    j < length (s .weights .now) → j * c .row-stride .result + length (s .out .now) ≤ length (c .before .rows-from .result .now)
+    j < length (s .weights .now) → j * c .row-stride .result + length (s .out .now) ≤ length (c .before .run-of .result .now)
 inside c j l =
     let k = c .before in
     let start = k .before .before .before .before .before .before .before .before in
     let s = start .args in
-    subst (λ (n : ℕ). j * c .row-stride .result + n ≤ length (k .rows-from .result .now)) (sym (start .pre .0))
-    (subst (λ (r : List Float). j * c .row-stride .result + s .call .vsize ≤ length r) (sym (k .rows-from .ensures))
-    (subst (λ (n : ℕ). j * n + s .call .vsize ≤ length (rowsFrom (s .call) (s .past .now) (s .incoming .now) (s .call .vsize) (s .b) (s .g) (s .from))) (sym (c .row-stride .ensures))
+    subst (λ (n : ℕ). j * c .row-stride .result + n ≤ length (k .run-of .result .now)) (sym (start .pre .0))
+    (subst (λ (r : List Float). j * c .row-stride .result + s .call .vsize ≤ length r) (sym (k .run-of .ensures))
+    (subst (λ (n : ℕ). j * n + s .call .vsize ≤ length (runAt (s .call) (s .past .now) (s .incoming .now) (s .call .vsize) (s .b) (s .g) (s .from) (length (s .weights .now)))) (sym (c .row-stride .ensures))
     (run-inside (s .call) (s .past .now) (s .incoming .now) (s .call .vsize) (s .b) (s .g) (s .from) (length (s .weights .now)) (start .pre .1 .0) j l)))
 
 weigh-admitted-requires : tie.Need-weigh-admitted-requires
@@ -68,19 +68,19 @@ returns-2 c =
     let start = k .before .before .before .before .before .before .before .before in
     let s = start .args in
     let n = length (s .weights .now) in
-    let rows = rowsFrom (s .call) (s .past .now) (s .incoming .now) (s .call .vsize) (s .b) (s .g) (s .from) in
+    let rows = runAt (s .call) (s .past .now) (s .incoming .now) (s .call .vsize) (s .b) (s .g) (s .from) (length (s .weights .now)) in
     let weighed : List Float → ℕ → List Float = λ r d. addedRowOf n (seesAt start) (elementOf (s .weights .now)) (λ j k. elementOf r (j * d + k)) (s .out .now) in
     a .weigh-admitted .ensures
-    ∙ ap (λ (r : List Float). weighed r (t .row-stride .result)) (k .rows-from .ensures)
+    ∙ ap (λ (r : List Float). weighed r (t .row-stride .result)) (k .run-of .ensures)
     ∙ ap (weighed rows) (t .row-stride .ensures)
-    ∙ run-weighed (s .call) (s .past .now) (s .incoming .now) (s .call .vsize) (s .b) (s .g) (s .from) n (start .pre .1 .0) (seesAt start) (elementOf (s .weights .now)) (s .out .now)
+    ∙ run-weighed (s .call) (s .past .now) (s .incoming .now) (s .call .vsize) (s .b) (s .g) (s .from) n (start .pre .1 .0) (seesAt start) (elementOf (s .weights .now)) (s .out .now) (start .pre .0)
 
 pub weigh-run-spec : {M : Type 1} → statement M
 weigh-run-spec =
     tie.close
     (tie.spec
     returns
-    rows-from-requires
+    run-of-requires
     row-stride-requires
     weigh-admitted-requires
     same-length

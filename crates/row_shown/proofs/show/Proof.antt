@@ -7,10 +7,7 @@ use native.Mathlib.Omega.{arith}
 use borrow.Author.Needs.{needs}
 use lib.ListN.{length, take, drop, replicate, length-append, length-drop}
 use lib.Seq.{length-take-le, take-append-seam}
-use lib.Ieee.{Float, nan}
-use Rattle.tensor_laws.specs.Layout.{tabulate}
-use Rattle.tensor_laws.proofs.Tabulate.{tabulate-getD}
-use Rattle.softmax.specs.Lists.{elementOf}
+use lib.Ieee.{Float}
 use Rattle.row_steps.specs.Steps.{shownWhere}
 use Rattle.tensor_laws.proofs.Tails.{length-part, put-part}
 use Rattle.row_shown.proofs.show.Statement.{statement}
@@ -27,13 +24,7 @@ slice-aggregate-copy-row : tie.Need-slice-aggregate-copy-row
 slice-aggregate-copy-row c = let s = c .before .before .before .before .args in sym (length-take-le (length (s .row .now)) (s .shown .now) (fits (c .before)))
 
 copy-row-requires : tie.Need-copy-row-requires
-copy-row-requires c κs = let s = c .before .before .before .before .args in omega (arith, length-take-le (length (s .row .now)) (s .shown .now) (fits (c .before)))
-
--- the part that is written is the row
-row-copied : (c : tie.After-copy-row) → c .copy-row .last .1 .0 ≡ c .before .before .before .before .before .args .row .now
-row-copied c =
-    let s = c .before .before .before .before .before .args in
-    c .copy-row .ensures ∙ ap (λ (n : ℕ). tabulate n (elementOf (s .row .now))) (length-take-le (length (s .row .now)) (s .shown .now) (fits (c .before .before))) ∙ tabulate-getD (s .row .now) nan
+copy-row-requires c κs = let s = c .before .before .before .before .args in length-take-le (length (s .row .now)) (s .shown .now) (fits (c .before))
 
 -- what is shown once the row is copied
 abbrev copied : tie.After-copy-row → List Float
@@ -45,7 +36,7 @@ length-copied c =
     let s = c .before .before .before .before .before .args in
     let n = length (s .row .now) in
     let h = fits (c .before .before) in
-    omega (arith, length-append (c .copy-row .last .1 .0) (drop n (s .shown .now)), ap length (row-copied c), length-drop n (s .shown .now))
+    omega (arith, length-append (c .copy-row .last .1 .0) (drop n (s .shown .now)), ap length (c .copy-row .ensures), length-drop n (s .shown .now))
 
 mul-fill-row : tie.Need-mul-fill-row
 mul-fill-row c = search needs
@@ -75,7 +66,7 @@ returns c =
     let h = fits t in
     let rest = f .fill-row .last .0 in
     put-part n (copied p) rest (omega (arith, length-copied p))
-    ∙ ap (λ (r : List Float). take n (r ++ drop n (s .shown .now)) ++ rest) (row-copied p)
+    ∙ ap (λ (r : List Float). take n (r ++ drop n (s .shown .now)) ++ rest) (p .copy-row .ensures)
     ∙ ap (λ (r : List Float). r ++ rest) (take-append-seam (s .row .now) (drop n (s .shown .now)))
     ∙ ap (λ (r : List Float). s .row .now ++ r) (f .fill-row .ensures ∙ ap (λ (k : ℕ). replicate k (s .x)) (length-part n (copied p) ∙ ap (λ (k : ℕ). k - n) (length-copied p)))
     ∙ ap (λ (b : Bool). shownWhere b (s .x) (s .row .now) (s .shown .now)) (sym (t .if1 .taken))

@@ -1,5 +1,5 @@
 -- `scores::score_few` meets its contract. The loop's invariant: the elements before j are the scores of their keys, the others are as they were. Assumes nothing.
-use mathlib.Core.Path.{_≡_, refl, ap, _∙_}
+use mathlib.Core.Path.{_≡_, refl, sym, ap, _∙_}
 use Prim.Native.Nat.{ℕ, _+_, _*_, _≤_, _-_}
 use native.Mathlib.Omega.{arith}
 use borrow.Author.Needs.{needs}
@@ -7,10 +7,10 @@ use mathlib.Core.List.{List}
 use lib.ListN.{length, set}
 use lib.Ieee.{Float, binary32, mul, nan}
 use Rattle.tensor_laws.proofs.InPlace.{indexedTo, indexed-next, length-indexedTo, indexed-all}
+use Rattle.tensor_laws.proofs.Parts.{length-part}
 use Rattle.softmax.specs.Row.{scoreOf}
 use Rattle.softmax.specs.Lists.{elementOf, scoreRowsOf}
-use Rattle.tensor_laws.proofs.Tails.{length-part}
-use Rattle.softmax.proofs.Rows.{dot-part}
+use Rattle.softmax.proofs.Rows.{dot-row}
 use Rattle.scores.proofs.score_few.Statement.{statement}
 use Rattle.scores.proofs.score_few.Tie as tie
 
@@ -40,6 +40,9 @@ inside c = let n = as-long (c .before) in c .before .before .before .before .bef
 mul-at : tie.Need-mul-at Inv-loop μ-loop
 mul-at c = let h = inside c in omega arith
 
+add-e : tie.Need-add-e Inv-loop μ-loop
+add-e c = let h = inside c in omega arith
+
 mul-dot : tie.Need-mul-dot Inv-loop μ-loop
 mul-dot c = let h = inside c in omega arith
 
@@ -50,14 +53,16 @@ part-dot-start : tie.Need-part-dot-start Inv-loop μ-loop
 part-dot-start c = let h = inside c in omega arith
 
 part-dot-end : tie.Need-part-dot-end Inv-loop μ-loop
-part-dot-end c = search needs
+part-dot-end c = let h = inside c in omega arith
 
 dot-requires : tie.Need-dot-requires Inv-loop μ-loop
 dot-requires c κs =
     let a = c .before .before in
     let s = a .before .before .before .before .args in
-    let h = inside (c .before) in
-    omega (arith, length-part (a .loop .j * s .stride) (s .keys .now))
+    let at = a .loop .j * s .stride in
+    let n = length (s .q .now) in
+    let e : at + n - at ≡ n = omega arith in
+    sym (length-part at (at + n - at) (s .keys .now) (omega (arith, inside (c .before))) ∙ e)
 
 mul-out : tie.Need-mul-out Inv-loop μ-loop
 mul-out c = search needs
@@ -77,10 +82,11 @@ loop-again c =
     let a = c .before .before .before in
     let s = a .before .before .before .before .args in
     let j = a .loop .j in
+    let at = j * s .stride in
     let g = eachOf (s .q .now) (s .keys .now) (s .stride) (s .scale) in
     let n = as-long a in (
       omega arith,
-      ap (λ (x : Float). set (a .loop .out) j (mul binary32 x (s .scale))) (c .dot .ensures ∙ dot-part (s .q .now) (s .keys .now) (j * s .stride))
+      ap (λ (x : Float). set (a .loop .out) j (mul binary32 x (s .scale))) (c .dot .ensures ∙ dot-row (s .q .now) (s .keys .now) at (at + length (s .q .now) - at) (omega arith))
           ∙ ap (λ (r : List Float). set r j (g j nan)) (a .loop .inv .1)
           ∙ indexed-next g nan j (s .out .now) (omega arith),
     )
@@ -104,6 +110,7 @@ score-few-spec =
     μ-loop
     loop-holds
     mul-at
+    add-e
     mul-dot
     sub-dot
     part-dot-start

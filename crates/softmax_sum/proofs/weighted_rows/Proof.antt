@@ -4,12 +4,12 @@ use Prim.Native.Nat.{ℕ, _+_, _*_, _≤_, _-_}
 use native.Mathlib.Omega.{arith}
 use borrow.Author.Needs.{needs}
 use mathlib.Core.List.{List}
-use lib.ListN.{length}
+use lib.ListN.{length, take, drop}
 use lib.Ieee.{Float, nan}
 use Rattle.tensor_laws.specs.Layout.{tabulate}
 use Rattle.tensor_laws.proofs.Tabulate.{length-tabulate, tabulate-getD}
+use Rattle.tensor_laws.proofs.Parts.{length-part}
 use Rattle.softmax.specs.Lists.{elementOf, accumulatedOf, accumulatedRowOf, weightedRowsOf}
-use Rattle.tensor_laws.proofs.Tails.{partOf, length-part}
 use Rattle.softmax.proofs.Rows.{columnOf, weighted-next}
 use Rattle.softmax_sum.proofs.weighted_rows.Statement.{statement}
 use Rattle.softmax_sum.proofs.weighted_rows.Tie as tie
@@ -37,6 +37,9 @@ inside c = c .before .before .before .before .before .pre (c .before .loop .j) (
 mul-at : tie.Need-mul-at Inv-loop μ-loop
 mul-at c = let h = inside c in omega arith
 
+add-e : tie.Need-add-e Inv-loop μ-loop
+add-e c = let h = inside c in omega (arith, as-long (c .before))
+
 mul-accumulate : tie.Need-mul-accumulate Inv-loop μ-loop
 mul-accumulate c = search needs
 
@@ -53,15 +56,16 @@ part-accumulate-start : tie.Need-part-accumulate-start Inv-loop μ-loop
 part-accumulate-start c = let h = inside (c .before .before) in omega arith
 
 part-accumulate-end : tie.Need-part-accumulate-end Inv-loop μ-loop
-part-accumulate-end c = search needs
+part-accumulate-end c = let h = inside (c .before .before) in omega (arith, as-long (c .before .before .before))
 
 accumulate-requires : tie.Need-accumulate-requires Inv-loop μ-loop
 accumulate-requires c κs =
     let a = c .before .before .before .before in
     let s = a .before .before .before .before .args in
-    let n = as-long a in
+    let at = a .loop .j * s .stride in
+    let n = length (a .loop .out) in
     let h = inside (c .before .before .before) in
-    omega (arith, length-part (a .loop .j * s .stride) (s .values .now))
+    length-part at (at + n - at) (s .values .now) (omega (arith, as-long a)) ∙ omega arith
 
 add-j : tie.Need-add-j Inv-loop μ-loop
 add-j c = omega arith
@@ -73,11 +77,13 @@ loop-again : tie.Need-loop-again Inv-loop μ-loop
 loop-again c =
     let a = c .before .before .before .before .before .before .before in
     let s = a .before .before .before .before .args in
-    let j = a .loop .j in (
+    let j = a .loop .j in
+    let at = j * s .stride in
+    let n = length (a .loop .out) in (
       omega arith,
       c .before .before .accumulate .ensures
-          ∙ ap (λ (r : List Float). accumulatedRowOf (elementOf (s .weights .now) j) (partOf (j * s .stride) (s .values .now)) r) (a .loop .inv .1)
-          ∙ weighted-next (s .weights .now) (s .values .now) (s .stride) (s .out .now) j,
+          ∙ ap (λ (r : List Float). accumulatedRowOf (elementOf (s .weights .now) j) (take (at + n - at) (drop at (s .values .now))) r) (a .loop .inv .1)
+          ∙ weighted-next (s .weights .now) (s .values .now) (s .stride) (s .out .now) j (at + n - at) (omega (arith, as-long a)),
     )
 
 same-length : tie.Need-same-length Inv-loop μ-loop
@@ -99,6 +105,7 @@ weighted-rows-spec =
     μ-loop
     loop-holds
     mul-at
+    add-e
     mul-accumulate
     shared-slice-read-accumulate
     mul-accumulate-2
