@@ -1,7 +1,7 @@
 -- Which rows of the present cache are written: those of one key head below a position, and those of the key heads below a number. Assumes nothing.
 use mathlib.Core.Path.{_≡_, refl, sym, ap, _∙_}
 use mathlib.Core.Logic.{_≢_}
-use mathlib.Core.Bool.{Bool, true, false, _&&_, _||_}
+use mathlib.Core.Bool.{Bool, true, false, _&&_, _||_, and-true, and-false}
 use Prim.Native.Nat.{ℕ, _+_, _*_, _/_, _%_, _<_}
 use native.Mathlib.Nat.{div-add-mod'}
 use native.Mathlib.Decide.{ℕ-discrete, decLt}
@@ -16,24 +16,16 @@ use Rattle.caches.specs.Rows.{inHead, headsBefore}
 abbrev pub headBefore : ℕ → ℕ → ℕ → ℕ → ℕ → ℕ → Bool
 headBefore b g j b′ g′ s′ = inHead b g b′ g′ s′ && ltb s′ j
 
-and-false : (p q : Bool) → q ≡ false → p && q ≡ false
-and-false true q e = e
-and-false false q e = refl
-
-and-true : (p q : Bool) → q ≡ true → p && q ≡ p
-and-true true q e = e
-and-true false q e = refl
-
 -- a number other than n is below n + 1 where it is below n
 ltb-next : (x n : ℕ) → x ≢ n → ltb x (n + 1) ≡ ltb x n
 ltb-next x n y = elim (decLt x n) [ yes h ↦ lt-ltb x (n + 1) (omega arith) ∙ sym (lt-ltb x n h) | no h ↦ le-ltb x (n + 1) (omega arith) ∙ sym (le-ltb x n (omega arith)) ]
 
 module _ (b g : ℕ) where
   pub before-none : (b′ g′ s′ : ℕ) → headBefore b g 0 b′ g′ s′ ≡ false
-  before-none b′ g′ s′ = and-false (inHead b g b′ g′ s′) (ltb s′ 0) (le-ltb s′ 0 (omega arith))
+  before-none b′ g′ s′ = rw (le-ltb s′ 0 (omega arith)) (and-false (inHead b g b′ g′ s′))
 
   pub before-all : (j b′ g′ s′ : ℕ) → s′ < j → headBefore b g j b′ g′ s′ ≡ inHead b g b′ g′ s′
-  before-all j b′ g′ s′ h = and-true (inHead b g b′ g′ s′) (ltb s′ j) (lt-ltb s′ j h)
+  before-all j b′ g′ s′ h = rw (lt-ltb s′ j h) (and-true (inHead b g b′ g′ s′))
 
   pub before-same : (j : ℕ) → headBefore b g (j + 1) b g j ≡ true
   before-same j = rw (eq-eqb b b refl, eq-eqb g g refl, lt-ltb j (j + 1) (omega arith))

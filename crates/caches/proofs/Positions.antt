@@ -18,7 +18,7 @@ use Rattle.call.specs.Limits.{totalOf, limitsHold}
 use Rattle.call.proofs.Facts.{limits→facts}
 use Rattle.attention.specs.Elements.{cellAt, positionCell}
 use Rattle.caches.specs.Fits.{CacheFits}
-use Rattle.caches.specs.Rows.{rowsFrom, rowAt, strideFrom, runAt}
+use Rattle.caches.specs.Rows.{rowsFrom, positionRow, strideFrom, positionRun}
 use Rattle.caches.proofs.Starts.{at-position, past-row-end, incoming-row-end}
 
 -- ---- the row m positions behind another starts m strides behind it: q is the test of the rank
@@ -88,12 +88,12 @@ module _ (c : Call) (past incoming : List Float) (size b g j : ℕ) where
   pub row-inside : CacheFits c (length past) (length incoming) size b g j → size ≤ length (rowsFrom c past incoming size b g j)
   row-inside f = omega (arith, rows-from-inside c past incoming size b g j 0 behind-none f (omega (arith, f .position)), zero-mul (strideFrom c size j))
 
-  pub row-long : CacheFits c (length past) (length incoming) size b g j → length (rowAt c past incoming size b g j) ≡ size
-  unfolding rowAt
+  pub row-long : CacheFits c (length past) (length incoming) size b g j → length (positionRow c past incoming size b g j) ≡ size
+  unfolding positionRow
   row-long f = length-take-le size (rowsFrom c past incoming size b g j) (row-inside f)
 
-  pub row-cell : (k : ℕ) → k < size → elementOf (rowAt c past incoming size b g j) k ≡ positionCell c past incoming size b g j k
-  unfolding rowAt
+  pub row-cell : (k : ℕ) → k < size → elementOf (positionRow c past incoming size b g j) k ≡ positionCell c past incoming size b g j k
+  unfolding positionRow
   row-cell k h =
       getD-take size (rowsFrom c past incoming size b g j) k nan h
       ∙ ap (elementOf (rowsFrom c past incoming size b g j)) (omega (arith, zero-mul (strideFrom c size j)))
@@ -114,13 +114,13 @@ module _ (c : Call) (past incoming : List Float) (size b g j n : ℕ) (some : 0 
   run-inside f t = rows-from-inside c past incoming size b g j (n - 1) (behind (n - 1) (omega arith)) f (omega arith)
 
   -- each row is inside the run
-  pub row-in-run : CacheFits c (length past) (length incoming) size b g j → j + n ≤ totalOf c → (m : ℕ) → m < n → m * strideFrom c size j + size ≤ length (runAt c past incoming size b g j n)
-  unfolding runAt
+  pub row-in-run : CacheFits c (length past) (length incoming) size b g j → j + n ≤ totalOf c → (m : ℕ) → m < n → m * strideFrom c size j + size ≤ length (positionRun c past incoming size b g j n)
+  unfolding positionRun
   row-in-run f t m l = omega (arith, length-take-le ((n - 1) * strideFrom c size j + size) (rowsFrom c past incoming size b g j) (run-inside f t), start-most m l)
 
   -- and has the elements of its position
-  pub run-cell : (m : ℕ) → m < n → (k : ℕ) → k < size → elementOf (runAt c past incoming size b g j n) (m * strideFrom c size j + k) ≡ positionCell c past incoming size b g (j + m) k
-  unfolding runAt
+  pub run-cell : (m : ℕ) → m < n → (k : ℕ) → k < size → elementOf (positionRun c past incoming size b g j n) (m * strideFrom c size j + k) ≡ positionCell c past incoming size b g (j + m) k
+  unfolding positionRun
   run-cell m l k h =
       getD-take ((n - 1) * strideFrom c size j + size) (rowsFrom c past incoming size b g j) (m * strideFrom c size j + k) nan (omega (arith, start-most m l))
       ∙ rows-from-cell c past incoming size b g j m (behind m l) k

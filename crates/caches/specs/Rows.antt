@@ -15,18 +15,18 @@ rowsFrom c past incoming size b g j =
     (drop (slot (c .rank) (c .kvheads) (c .klen) b g (j - c .past) * size) incoming)
 
 -- position j's row of key head g in batch b: the first elements of that part
-unfoldable pub rowAt : Call → (past incoming : List Float) → (size b g j : ℕ) → List Float
+unfoldable pub positionRow : Call → (past incoming : List Float) → (size b g j : ℕ) → List Float
 unfolding rowsFrom
-rowAt c past incoming size b g j = take size (rowsFrom c past incoming size b g j)
+positionRow c past incoming size b g j = take size (rowsFrom c past incoming size b g j)
 
 -- the distance from one position's row to the next there
 unfoldable pub strideFrom : Call → (size j : ℕ) → ℕ
 strideFrom c size j = cond (ltb j (c .past)) size (cond (eqb (c .rank) 4) size (c .kvheads * size))
 
 -- a run of rows: those of n positions from j on, from the start of the first to the end of the last
-unfoldable pub runAt : Call → (past incoming : List Float) → (size b g j n : ℕ) → List Float
+unfoldable pub positionRun : Call → (past incoming : List Float) → (size b g j n : ℕ) → List Float
 unfolding rowsFrom strideFrom
-runAt c past incoming size b g j n = take ((n - 1) * strideFrom c size j + size) (rowsFrom c past incoming size b g j)
+positionRun c past incoming size b g j n = take ((n - 1) * strideFrom c size j + size) (rowsFrom c past incoming size b g j)
 
 -- whether a row is one of key head g in batch b
 abbrev pub inHead : ℕ → ℕ → ℕ → ℕ → ℕ → Bool

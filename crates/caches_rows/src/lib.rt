@@ -6,7 +6,7 @@ ghost use lib.ListN.{length};
 ghost use Rattle.tensor_laws.specs.Layout.{slot};
 ghost use Rattle.call.specs.Limits.{totalOf, limitsHold};
 ghost use Rattle.caches.specs.Fits.{RowFits, CacheFits};
-ghost use Rattle.caches.specs.Rows.{rowsFrom, rowAt, strideFrom, runAt};
+ghost use Rattle.caches.specs.Rows.{rowsFrom, positionRow, strideFrom, positionRun};
 use call::Call;
 
 // Where the row of batch b, head h, position s starts in a tensor of either rank.
@@ -61,7 +61,7 @@ pub fn row_of<'a>(
     j: usize,
 ) -> &'a [f32]
     requires { ⌜ CacheFits call (length (now past)) (length (now incoming)) size b g j ⌝ }
-    ensures { λ r. ⌜ now r ≡ rowAt call (now (past .entry)) (now (incoming .entry)) size b g j ⌝ }
+    ensures { λ r. ⌜ now r ≡ positionRow call (now (past .entry)) (now (incoming .entry)) size b g j ⌝ }
 {
     let rows = rows_from(call, past, incoming, size, b, g, j);
     &rows[..size]
@@ -95,7 +95,7 @@ pub fn run_of<'a>(
 ) -> &'a [f32]
     requires { ⌜ CacheFits call (length (now past)) (length (now incoming)) size b g from ⌝ }
     requires { ⌜ (0 < count) × (from < call .past → from + count ≤ call .past) × (from + count ≤ totalOf call) ⌝ }
-    ensures { λ r. ⌜ now r ≡ runAt call (now (past .entry)) (now (incoming .entry)) size b g from count ⌝ }
+    ensures { λ r. ⌜ now r ≡ positionRun call (now (past .entry)) (now (incoming .entry)) size b g from count ⌝ }
 {
     let rows = rows_from(call, past, incoming, size, b, g, from);
     let stride = row_stride(call, size, from);

@@ -17,7 +17,7 @@ use Rattle.call.specs.declared.Call.{Call}
 use Rattle.call.specs.Limits.{totalOf}
 use Rattle.attention.specs.Elements.{positionCell}
 use Rattle.caches.specs.Fits.{CacheFits}
-use Rattle.caches.specs.Rows.{strideFrom, runAt}
+use Rattle.caches.specs.Rows.{strideFrom, positionRun}
 use Rattle.caches.proofs.Positions.{row-in-run, run-cell}
 use Rattle.admitted_sum.specs.Sums.{addedRowOf}
 use Rattle.tensor_laws.proofs.Tails.{partOf, length-part, getD-part}
@@ -46,22 +46,22 @@ module _ (c : Call) (pastLength incomingLength size b g n cut : ℕ) (f : RunFit
 
 module _ (c : Call) (past incoming : List Float) (size b g from n : ℕ) (f : RunFits c (length past) (length incoming) size b g from n) where
   -- each row ends inside the part
-  pub run-inside : (j : ℕ) → j < n → j * strideFrom c size from + size ≤ length (runAt c past incoming size b g from n)
+  pub run-inside : (j : ℕ) → j < n → j * strideFrom c size from + size ≤ length (positionRun c past incoming size b g from n)
   run-inside j l = let some : 0 < n = omega arith in row-in-run c past incoming size b g from n some (f .together) (run-start f some) (f .inside) j l
 
   -- and has the elements of its position
-  cell : (j : ℕ) → j < n → (k : ℕ) → k < size → elementOf (runAt c past incoming size b g from n) (j * strideFrom c size from + k) ≡ positionCell c past incoming size b g (from + j) k
+  cell : (j : ℕ) → j < n → (k : ℕ) → k < size → elementOf (positionRun c past incoming size b g from n) (j * strideFrom c size from + k) ≡ positionCell c past incoming size b g (from + j) k
   cell j l k h = let some : 0 < n = omega arith in run-cell c past incoming size b g from n some (f .together) j l k h
 
   pub run-scores : (q : List Float) (scale : Float) → length q ≡ size
-      → scoreRowsOf q (runAt c past incoming size b g from n) (strideFrom c size from) scale n ≡ tabulate n (λ j. scoreOf size (elementOf q) (positionCell c past incoming size b g (from + j)) scale)
-  run-scores q scale l = scores-by-keys q (runAt c past incoming size b g from n) (strideFrom c size from) scale n size (λ j. positionCell c past incoming size b g (from + j)) l cell
+      → scoreRowsOf q (positionRun c past incoming size b g from n) (strideFrom c size from) scale n ≡ tabulate n (λ j. scoreOf size (elementOf q) (positionCell c past incoming size b g (from + j)) scale)
+  run-scores q scale l = scores-by-keys q (positionRun c past incoming size b g from n) (strideFrom c size from) scale n size (λ j. positionCell c past incoming size b g (from + j)) l cell
 
   pub run-weighed : (sees : ℕ → Bool) (weight : ℕ → Float) (out : List Float) → length out ≡ size
-      → addedRowOf n sees weight (λ j k. elementOf (runAt c past incoming size b g from n) (j * strideFrom c size from + k)) out
+      → addedRowOf n sees weight (λ j k. elementOf (positionRun c past incoming size b g from n) (j * strideFrom c size from + k)) out
       ≡ addedRowOf n sees weight (λ j k. positionCell c past incoming size b g (from + j) k) out
   run-weighed sees weight out e =
-      added-row-agree n sees sees weight weight (λ j k. elementOf (runAt c past incoming size b g from n) (j * strideFrom c size from + k)) (λ j k. positionCell c past incoming size b g (from + j) k) out
+      added-row-agree n sees sees weight weight (λ j k. elementOf (positionRun c past incoming size b g from n) (j * strideFrom c size from + k)) (λ j k. positionCell c past incoming size b g (from + j) k) out
       (λ j l. refl) (λ j l. refl) (λ j l k m. cell j l k (omega arith))
 
 -- the weighted sum over the first positions, and then over the others, is that over all

@@ -14,7 +14,7 @@ use Rattle.call.specs.Limits.{totalOf}
 use Rattle.call.proofs.Facts.{limits→facts}
 use Rattle.attention.specs.Elements.{positionCell}
 use Rattle.caches.specs.Fits.{CacheFits}
-use Rattle.caches.specs.Rows.{rowAt, inHead}
+use Rattle.caches.specs.Rows.{positionRow, inHead}
 use Rattle.caches.proofs.Starts.{read-row, written-row-fits, written-row-end}
 use Rattle.caches.proofs.Positions.{row-long, row-cell}
 use Rattle.caches.proofs.Heads.{headBefore, before-none, before-all, before-same, before-other}
@@ -123,7 +123,7 @@ loop-again c =
     let s = r .before .before .before .before .before .before .before in
     let a = s .args in
     let row = c .before .before .copy-row .last .1 .0 in
-    let e : row ≡ rowAt (a .call) (a .past .now) (a .incoming .now) (a .size) (a .b) (a .g) (l .j) = c .before .before .copy-row .ensures ∙ c .before .before .before .before .row-of .ensures in
+    let e : row ≡ positionRow (a .call) (a .past .now) (a .incoming .now) (a .size) (a .b) (a .g) (l .j) = c .before .before .copy-row .ensures ∙ c .before .before .before .before .row-of .ensures in
     let long : length row ≡ a .size = ap length e ∙ row-long (a .call) (a .past .now) (a .incoming .now) (a .size) (a .b) (a .g) (l .j) (reads-row (r .before)) in
     let cells : (k : ℕ) → k < a .size → getD row k nan ≡ positionCell (a .call) (a .past .now) (a .incoming .now) (a .size) (a .b) (a .g) (l .j) k =
     λ k h. ap (λ (t : List Float). elementOf t k) e ∙ row-cell (a .call) (a .past .now) (a .incoming .now) (a .size) (a .b) (a .g) (l .j) k h in (

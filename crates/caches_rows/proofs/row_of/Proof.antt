@@ -5,7 +5,7 @@ use Prim.Native.Nat.{_≤_}
 use lib.ListN.{length, take}
 use lib.Seq.{length-take-le}
 use lib.Ieee.{Float}
-use Rattle.caches.specs.Rows.{rowAt}
+use Rattle.caches.specs.Rows.{positionRow}
 use Rattle.caches.proofs.Positions.{row-inside}
 use Rattle.caches_rows.proofs.row_of.Statement.{statement}
 use Rattle.caches_rows.proofs.row_of.Tie as tie
@@ -24,7 +24,7 @@ slice-aggregate-result : tie.Need-slice-aggregate-result
 slice-aggregate-result c = sym (length-take-le (c .before .before .before .before .args .size) (c .before .rows-from .result .now) (inside (c .before)))
 
 returns : tie.Need-returns
-unfolding rowAt
+unfolding positionRow
 returns c = ap (take (c .before .before .before .before .args .size)) (c .before .rows-from .ensures)
 
 pub row-of-spec : {M : Type 1} → statement M

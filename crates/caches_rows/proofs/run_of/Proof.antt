@@ -8,7 +8,7 @@ use lib.ListN.{length, take}
 use lib.Seq.{length-take-le}
 use lib.Ieee.{Float}
 use Rattle.call.proofs.Facts.{limits→facts}
-use Rattle.caches.specs.Rows.{rowsFrom, strideFrom, runAt}
+use Rattle.caches.specs.Rows.{rowsFrom, strideFrom, positionRun}
 use Rattle.caches.proofs.Positions.{run-inside, stride-most}
 use Rattle.caches_rows.proofs.run_of.Statement.{statement}
 use Rattle.caches_rows.proofs.run_of.Tie as tie
@@ -59,7 +59,7 @@ slice-aggregate-result c =
     sym (length-take-le ((a .count - 1) * r .row-stride .result + a .size) (r .before .rows-from .result .now) (inside r))
 
 returns : tie.Need-returns
-unfolding runAt
+unfolding positionRun
 returns c =
     let r = c .before in
     let a = startOf r .args in

@@ -10,7 +10,7 @@ use lib.Ieee.{Float}
 use Rattle.softmax.specs.Lists.{elementOf}
 use Rattle.attention.specs.Elements.{positionCell}
 use Rattle.attention.specs.Admission.{repeated}
-use Rattle.caches.specs.Rows.{runAt}
+use Rattle.caches.specs.Rows.{positionRun}
 use Rattle.admitted_sum.specs.Sums.{admittedBy, addedRowOf}
 use Rattle.admitted_sum.proofs.Added.{added-row-none}
 use Rattle.row_runs.proofs.Runs.{run-start, run-inside, run-weighed}
@@ -51,7 +51,7 @@ inside c j l =
     let s = start .args in
     subst (λ (n : ℕ). j * c .row-stride .result + n ≤ length (k .run-of .result .now)) (sym (start .pre .0))
     (subst (λ (r : List Float). j * c .row-stride .result + s .call .vsize ≤ length r) (sym (k .run-of .ensures))
-    (subst (λ (n : ℕ). j * n + s .call .vsize ≤ length (runAt (s .call) (s .past .now) (s .incoming .now) (s .call .vsize) (s .b) (s .g) (s .from) (length (s .weights .now)))) (sym (c .row-stride .ensures))
+    (subst (λ (n : ℕ). j * n + s .call .vsize ≤ length (positionRun (s .call) (s .past .now) (s .incoming .now) (s .call .vsize) (s .b) (s .g) (s .from) (length (s .weights .now)))) (sym (c .row-stride .ensures))
     (run-inside (s .call) (s .past .now) (s .incoming .now) (s .call .vsize) (s .b) (s .g) (s .from) (length (s .weights .now)) (start .pre .1 .0) j l)))
 
 weigh-admitted-requires : tie.Need-weigh-admitted-requires
@@ -68,7 +68,7 @@ returns-2 c =
     let start = k .before .before .before .before .before .before .before .before in
     let s = start .args in
     let n = length (s .weights .now) in
-    let rows = runAt (s .call) (s .past .now) (s .incoming .now) (s .call .vsize) (s .b) (s .g) (s .from) (length (s .weights .now)) in
+    let rows = positionRun (s .call) (s .past .now) (s .incoming .now) (s .call .vsize) (s .b) (s .g) (s .from) (length (s .weights .now)) in
     let weighed : List Float → ℕ → List Float = λ r d. addedRowOf n (seesAt start) (elementOf (s .weights .now)) (λ j k. elementOf r (j * d + k)) (s .out .now) in
     a .weigh-admitted .ensures
     ∙ ap (λ (r : List Float). weighed r (t .row-stride .result)) (k .run-of .ensures)

@@ -8,7 +8,7 @@ use lib.ListN.{length}
 use lib.Ieee.{Float}
 use Rattle.tensor_laws.proofs.Tabulate.{none-long, length-tabulate}
 use Rattle.softmax.specs.Lists.{scoreRowsOf}
-use Rattle.caches.specs.Rows.{runAt}
+use Rattle.caches.specs.Rows.{positionRun}
 use Rattle.row_runs.proofs.Runs.{run-start, run-inside, run-scores}
 use Rattle.row_scores.proofs.score_run.Statement.{statement}
 use Rattle.row_scores.proofs.score_run.Tie as tie
@@ -33,7 +33,7 @@ score-rows-requires c κs j l =
     let s = start .args in
     subst (λ (n : ℕ). j * c .before .row-stride .result + n ≤ length (k .run-of .result .now)) (sym (start .pre .0))
     (subst (λ (r : List Float). j * c .before .row-stride .result + s .call .size ≤ length r) (sym (k .run-of .ensures))
-    (subst (λ (n : ℕ). j * n + s .call .size ≤ length (runAt (s .call) (s .past .now) (s .incoming .now) (s .call .size) (s .b) (s .g) (s .from) (length (s .row .now)))) (sym (c .before .row-stride .ensures))
+    (subst (λ (n : ℕ). j * n + s .call .size ≤ length (positionRun (s .call) (s .past .now) (s .incoming .now) (s .call .size) (s .b) (s .g) (s .from) (length (s .row .now)))) (sym (c .before .row-stride .ensures))
     (run-inside (s .call) (s .past .now) (s .incoming .now) (s .call .size) (s .b) (s .g) (s .from) (length (s .row .now)) (start .pre .1) j l)))
 
 same-length : tie.Need-same-length
@@ -49,7 +49,7 @@ returns-2 c =
     let n = length (s .row .now) in
     a .score-rows .ensures
     ∙ ap (λ (r : List Float). scoreRowsOf (s .q .now) r (t .row-stride .result) (s .scale) n) (k .run-of .ensures)
-    ∙ ap (λ (d : ℕ). scoreRowsOf (s .q .now) (runAt (s .call) (s .past .now) (s .incoming .now) (s .call .size) (s .b) (s .g) (s .from) (length (s .row .now))) d (s .scale) n) (t .row-stride .ensures)
+    ∙ ap (λ (d : ℕ). scoreRowsOf (s .q .now) (positionRun (s .call) (s .past .now) (s .incoming .now) (s .call .size) (s .b) (s .g) (s .from) (length (s .row .now))) d (s .scale) n) (t .row-stride .ensures)
     ∙ run-scores (s .call) (s .past .now) (s .incoming .now) (s .call .size) (s .b) (s .g) (s .from) n (start .pre .1) (s .q .now) (s .scale) (start .pre .0)
 
 pub score-run-spec : {M : Type 1} → statement M
