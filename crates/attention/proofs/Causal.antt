@@ -1,13 +1,12 @@
 -- What a causal call without a mask computes, for any live counts: the output of a row that reaches the position at + i is that over the keys 0 to at + i, all of them seen, where that position is live; and no row is fully masked where each batch has a live position. And what the effective scale depends on. Assumes nothing.
 use mathlib.Core.Path.{_≡_, refl, ap, _∙_}
-use mathlib.Core.Bool.{Bool, true, false, _&&_, and-true, and-false}
+use mathlib.Core.Bool.{true, false, _&&_, and-true, and-false}
 use Prim.Native.Nat.{ℕ, zero, suc, _+_, _*_, _≤_, _<_, zero-le}
 use native.Mathlib.Omega.{arith}
 use lib.Dec.{ltb, leb}
 use lib.Ieee.{Float}
 use borrow.Author.Tests.{lt-ltb, le-leb, lt-leb}
 use Rattle.bool_laws.proofs.Counts.{count-none}
-use Rattle.bool_laws.specs.Counts.{tally, countWhere}
 use Rattle.tensor_laws.specs.Layout.{batchAt, headAt, positionAt}
 use Rattle.tensor_laws.proofs.Slots.{batch-lt}
 use Rattle.softmax.specs.Row.{scoreOf, rowOutputOf}

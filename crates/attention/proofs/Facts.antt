@@ -1,11 +1,11 @@
 -- What an accepted call says of the elements that the formula reads: each is a number of magnitude at most 65,536, the scale is from 0 to 1,024, and a query head's key head exists. Assumes nothing.
 use mathlib.Core.Path.{_≡_, refl, sym, ap, _∙_, subst}
 use mathlib.Core.List.{List}
-use Prim.Native.Nat.{ℕ, _+_, _-_, _*_, _/_, _%_, _≤_, _<_, zero-le}
+use Prim.Native.Nat.{ℕ, _+_, _-_, _*_, _/_, _%_, _≤_, _<_}
 use native.Mathlib.Nat.{le-refl, div-lt-iff-lt-mul, div-add-mod', mul-comm}
 use native.Mathlib.Omega.{arith}
 use mathlib.Core.Bool.{Bool, true, false, not, cond}
-use lib.IntN.{ℤ, pos, negsuc}
+use lib.IntN.{ℤ, pos}
 use lib.Arith.{digits-div}
 use lib.Dec.{T, ltb, ltb→lt, nltb→le, lt→ltb, eqb→eq}
 use lib.ListN.{length, getD}
@@ -30,7 +30,7 @@ use Rattle.call.specs.declared.Scale.the-variants.{Absent, Given}
 use Rattle.call.specs.Tensors.{Inputs, Outputs}
 use Rattle.call.specs.Limits.{groupsHold, totalOf, pastAllowed, scaleAllowed}
 use Rattle.call.specs.Lengths.{inCached, inCounted}
-use Rattle.call.specs.Contents.{nothing, countFault, countOf, liveIn, liveOf, tensorFault, lookedAt, incomingFault}
+use Rattle.call.specs.Contents.{nothing, countFault, liveIn, liveOf, tensorFault, lookedAt, incomingFault}
 use Rattle.call.proofs.Clear.{live→clear, element→bounded, tensor→clear, incoming→looked, count-most}
 use Rattle.call.proofs.Accepted.{Accepts}
 use Rattle.call.proofs.Facts.{holds, limits→facts, past-allowed, groups→multiple, settings→facts, fit→lengths}

@@ -1,7 +1,6 @@
 -- The whole call as one function on values: from the record, the tensors that are read and the tensors lent for writing as they came in, to the answer and those tensors as they go out. Definitions only.
 use mathlib.Core.List.{List, []}
-use Prim.Native.Nat.{ℕ, zero, suc, _+_, _-_, _*_}
-use mathlib.Core.Bool.{Bool, true, false}
+use Prim.Native.Nat.{ℕ, _-_, _*_}
 use lib.Ieee.{Float}
 use Rattle.bool_laws.specs.Counts.{countWhere}
 use Rattle.tensor_laws.specs.Layout.{tabulate, tensorOf, batchAt, headAt, positionAt}

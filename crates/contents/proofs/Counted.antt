@@ -1,20 +1,19 @@
 -- A counted call to which refusals 1 and 7 do not apply: its past is 0, and no live count is above Sk. The length of K or V by its groups. Assumes nothing.
 use mathlib.Core.Path.{_≡_, ap, _∙_, subst}
-use mathlib.Core.Bool.{true, false, true≢false}
+use mathlib.Core.Bool.{true}
 use mathlib.Core.List.{List}
 use Prim.Native.Nat.{ℕ, _*_, _≤_, _<_}
 use native.Mathlib.Nat.{mul-one, mul-assoc, mul-right-comm}
 use native.Mathlib.Omega.{arith}
 use lib.Dec.{T, eqb→eq}
-use lib.IntN.{ℤ, pos, negsuc}
+use lib.IntN.{ℤ, pos}
 use lib.ListN.{length, getD}
-use borrow.Author.Tests.{ltb-false}
 use Rattle.call.specs.declared.Call.{Call}
 use Rattle.call.specs.declared.Form.{Form}
 use Rattle.call.specs.declared.Form.the-variants.{Counted}
 use Rattle.call.specs.Limits.{totalOf, pastAllowed, limitsHold}
 use Rattle.call.specs.Lengths.{inCounted, liveLength}
-use Rattle.call.specs.Contents.{nothing, countOf, countFault, liveIn, liveOf, liveFault}
+use Rattle.call.specs.Contents.{nothing, countOf, liveIn, liveOf, liveFault}
 use Rattle.call.proofs.Facts.{past-allowed}
 use Rattle.call.proofs.Clear.{count-most, live→clear}
 

@@ -2,12 +2,12 @@
 use mathlib.Core.Path.{_≡_, refl, sym, ap, _∙_, subst}
 use mathlib.Core.Logic.{inl, inr}
 use mathlib.Core.List.{List, [], _∷_, map, zipWith}
-use Prim.Native.Nat.{ℕ, zero, suc, _+_, _-_, _*_, _/_, _%_, _≤_, _<_}
-use native.Mathlib.Nat.{not-suc-le-zero, le-of-suc-le-suc, zero-add, suc-add, div-lt-iff-lt-mul, mod-le}
+use Prim.Native.Nat.{ℕ, zero, suc, _-_, _*_, _/_, _%_, _≤_, _<_}
+use native.Mathlib.Nat.{not-suc-le-zero, le-of-suc-le-suc, div-lt-iff-lt-mul, mod-le}
 use native.Mathlib.Omega.{arith}
 use mathlib.Core.Bool.{Bool, true, false, not, _||_, _&&_, cond}
 use lib.Dec.{T, T-not, not-T, lit<, lit≤}
-use lib.ListN.{length, getD, take, drop, length-map}
+use lib.ListN.{length, getD, length-map}
 use lib.Ieee.{Float, nan, inf, fin, binary32, sub, mul, le, lt, isNan, nanBits, ofBits}
 use lib.Ieee.Bits.{is-true, nanBits-above}
 use denote.Floats.{passes}
@@ -15,8 +15,6 @@ use borrow.Author.Tests.{le-ltb}
 use Rattle.float_laws.proofs.Order.{le-of-not-lt, lt-of-not-le, not-lt-of-le}
 use Rattle.float_laws.proofs.Product.{mul-not-nan}
 use Rattle.tensor_laws.specs.Layout.{tabulate}
-use Rattle.tensor_laws.proofs.InPlace.{mappedTo}
-use Rattle.tensor_laws.proofs.Parts.{withPart}
 use Rattle.tables.specs.Power.{powerOf}
 use Rattle.exponential.specs.ExpNeg.{plusZero, limit, log2e, inRange, wholePartOf, restOf, polyOf, belowLimitOf, expNegOf, valueOrZero, expNegRowOf}
 use Rattle.exponential.specs.Blocks.{beyond, exponentOf, exponentsOf, Exponent, Exponents, polysOf, timesPower}

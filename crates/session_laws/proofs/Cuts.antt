@@ -1,7 +1,7 @@
 -- A file in which positions stand, cut after any byte: the reader gives exactly the positions that are whole. Assumes nothing.
 use mathlib.Core.Path.{_≡_, sym, ap, _∙_, subst}
 use mathlib.Core.Logic.{inl, inr}
-use mathlib.Core.Bool.{Bool, true, false, _&&_, cond, true≢false}
+use mathlib.Core.Bool.{true, false, _&&_, cond}
 use mathlib.Core.List.{List}
 use Prim.Native.Nat.{ℕ, zero, suc, _+_, _-_, _*_, _/_, _≤_, _<_}
 use native.Mathlib.Nat.{div-add-mod', mod-lt, mul-le-mul-right, mul-assoc}
@@ -10,7 +10,7 @@ use native.Mathlib.Omega.{arith}
 use lib.Dec.{leb, ltb}
 use lib.ListN.{length, take}
 use lib.Seq.{length-take-le}
-use borrow.Author.Tests.{lt-ltb, le-ltb, le-leb, lt-leb}
+use borrow.Author.Tests.{le-leb, lt-leb}
 use Rattle.session_file.proofs.Nexts.{next-ended, next-cut, next-whole}
 use Rattle.bool_laws.proofs.Counts.{count-agree}
 use Rattle.bool_laws.proofs.Tests.{both-true}
@@ -20,7 +20,7 @@ use Rattle.records.proofs.Places.{u16At-take, f32At-take, headIs-take}
 use Rattle.session_file.specs.declared.Sizes.{Sizes}
 use Rattle.call.specs.declared.Refusal.the-variants.{Limits, Record}
 use Rattle.session_file.specs.declared.Next.{Next}
-use Rattle.session_file.specs.declared.Next.the-variants.{Ended, Cut, Whole}
+use Rattle.session_file.specs.declared.Next.the-variants.{Whole}
 use Rattle.session_file.specs.declared.Reading.the-variants.{SessionRead, NotRead}
 use Rattle.session_file.specs.Sizes.{sizesHold, mostPositions, rowsOf, payloadLength, recordLength, recordStart}
 use Rattle.session_file.specs.Reader.{nextOf, payloadFault, positionFault, atMost, onward, walkFrom, sizesAt, firstWhole, readOf}

@@ -2,16 +2,14 @@
 use mathlib.Core.Path.{_≡_, sym, ap, _∙_, subst}
 use mathlib.Core.Bool.{true, false}
 use mathlib.Core.List.{List, _++_, append-assoc}
-use Prim.Native.Nat.{ℕ, _+_, _-_, _*_, _/_, _%_, _≤_, _<_}
+use Prim.Native.Nat.{ℕ, _+_, _-_, _*_, _/_, _%_, _<_}
 use native.Mathlib.Nat.{mul-assoc, add-mul, div-lt-iff-lt-mul, div-add-mod', mod-lt}
 use native.Mathlib.Decide.{decLt}
 use native.Mathlib.Omega.{arith}
 use lib.Dec.{T}
 use lib.Ieee.{Float, nan, binary32, fits}
-use lib.ListN.{length, getD, drop, length-append}
-use lib.Seq.{getD-take, getD-drop}
+use lib.ListN.{length, getD, length-append}
 use Rattle.session_file.proofs.Caches.{cell-inside, length-row, row-cell}
-use Rattle.tensor_laws.proofs.Parts.{length-part, row-end}
 use Rattle.tensor_laws.proofs.Tabulate.{getD-tabulate}
 use Rattle.call.specs.Contents.{elementFault}
 use Rattle.records.specs.Numbers.{rowBytes, f32At, rowAt}

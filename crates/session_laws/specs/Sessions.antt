@@ -2,11 +2,10 @@
 use mathlib.Core.Path.{_≡_}
 use mathlib.Core.Bool.{true, false, cond}
 use mathlib.Core.List.{List}
-use Prim.Native.Nat.{ℕ, _+_, _-_, _*_, _/_, _%_, _≤_, _<_}
+use Prim.Native.Nat.{ℕ, _+_, _-_, _*_, _≤_, _<_}
 use lib.Dec.{T, ltb}
 use lib.Ieee.{Float, nan, binary32, fits}
 use lib.ListN.{length, getD}
-use Rattle.tensor_laws.specs.Layout.{tabulate}
 use Rattle.call.specs.Contents.{elementFault}
 use Rattle.session_file.specs.Sizes.{sizesHold, mostPositions, rowsOf}
 use Rattle.session_file.specs.Form.{Session, sessionOf, cacheCell, cacheOf}

@@ -7,13 +7,9 @@ use native.Mathlib.Decide.{ℕ-discrete}
 use native.Mathlib.Omega.{arith}
 use lib.Arith.{digits-lt, digits-div, digits-mod}
 use lib.ListN.{length, getD}
-use lib.Seq.{ext-getD}
 use lib.Ieee.{Float, nan}
 use Rattle.session_file.proofs.Caches.{cache-of-cells}
 use Rattle.session_file.specs.Form.{cacheOf}
-use Rattle.tensor_laws.specs.Layout.{tabulate}
-use Rattle.tensor_laws.proofs.Tabulate.{length-tabulate, getD-tabulate}
-use Rattle.tensor_laws.proofs.Slots.{right-factor-pos}
 use Rattle.tensor_laws.proofs.Parts.{withPart, row-end, length-withPart, getD-row-same, getD-row-other}
 
 -- after i rows: element k of row r of position q is what cell gives, where that row came before

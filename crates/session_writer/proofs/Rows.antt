@@ -1,11 +1,10 @@
 -- The rows of a position: they are inside caches of the right lengths, their bytes have the lengths of the form, and none of their elements is a NaN where the position is without fault. Assumes nothing.
 use mathlib.Core.Path.{_≡_, refl, sym, ap, _∙_}
-use mathlib.Core.Bool.{Bool, true, false, not, _||_, true≢false}
+use mathlib.Core.Bool.{Bool, true, false, not, _||_}
 use mathlib.Core.List.{List, _++_}
 use Prim.Native.Nat.{ℕ, _+_, _-_, _*_, _≤_, _<_}
 use native.Mathlib.Omega.{arith}
 use borrow.Author.Tests.{lt-ltb, le-ltb}
-use lib.Arith.{digits-lt}
 use lib.Dec.{T, ltb}
 use lib.ListN.{length, getD, take, drop, length-append}
 use lib.Ieee.{Float, nan, isNan}

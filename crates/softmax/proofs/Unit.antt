@@ -3,7 +3,7 @@ use mathlib.Core.Path.{_≡_, refl, sym, ap, _∙_, subst}
 use Prim.Native.Nat.{ℕ, zero, suc, _*_, _^_, _≤_, _<_}
 use native.Mathlib.Nat.{le-refl, mul-one, mul-le-mul-right}
 use native.Mathlib.Omega.{arith}
-use mathlib.Core.Bool.{Bool, true, false, not, _||_, true≢false}
+use mathlib.Core.Bool.{Bool, true, false, not, true≢false}
 use lib.Dec.{T, leb, leb→le, nleb→lt, lit<, lit≤}
 use lib.Ieee.{Float, binary32, round, neg, add, sub, mul, div, le, lt, isNan}
 use lib.Ieee.Order.{round-mono}

@@ -2,7 +2,6 @@
 use mathlib.Core.Path.{_≡_}
 use Prim.Native.Nat.{ℕ, _+_, _-_, _*_, _^_, _≤_, _<_}
 use native.Mathlib.Nat.{le-antisymm, lt-trans, lt-of-not-le, not-le-of-lt, pow-le-pow-left}
-use native.Mathlib.Omega.{arith}
 use mathlib.Core.Bool.{Bool, false, not, _&&_}
 use lib.Dec.{T, leb, ltb, leb→le, ltb→lt}
 use lib.ListN.{getD}

@@ -1,6 +1,6 @@
 -- `exponential_number::exp_neg_by` meets its contract: the three tests are those of the definition, and below the limit y is in range. Assumes nothing.
 use mathlib.Core.Path.{_≡_, sym, ap, _∙_, subst}
-use mathlib.Core.Bool.{Bool, true, false, not, _||_}
+use mathlib.Core.Bool.{true, false, not}
 use lib.Dec.{T, T-not}
 use lib.Ieee.{Float, nan, inf, fin, binary32, ne, lt, le, mul, isNan, ofBits, nanBits}
 use lib.Ieee.Compare.{differs-from-itself, nan-differs}

@@ -2,13 +2,9 @@
 use mathlib.Core.Path.{_≡_, sym, ap, _∙_}
 use Prim.Native.Nat.{ℕ, _+_, _*_, _/_, _%_, _≤_, _<_, _-_}
 use native.Mathlib.Omega.{arith}
-use mathlib.Core.List.{List}
 use lib.ListN.{length, take, drop}
-use lib.Ieee.{Float}
 use Rattle.session_file.specs.Reader.{fileCell}
 use Rattle.tensor_laws.proofs.Parts.{length-part}
-use Rattle.records.specs.Numbers.{f32At}
-use Rattle.session_file.specs.declared.Sizes.{Sizes}
 use Rattle.session_file.specs.Sizes.{rowsOf, pairLength}
 use Rattle.session_reader.proofs.Products.{rows-most}
 use Rattle.session_reader.proofs.Rows.{rowFrom, RowFacts, row-facts}
