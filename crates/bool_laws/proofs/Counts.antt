@@ -1,4 +1,4 @@
--- How many numbers pass a test: one by one, in two runs one after the other, by tests that agree, and at most. Assumes nothing.
+-- How many numbers pass a test: one by one, in two runs one after the other, by tests that agree, at most, and none. Assumes nothing.
 use mathlib.Core.Path.{_≡_, refl, sym, ap, _∙_}
 use mathlib.Core.Bool.{Bool, true, false}
 use Prim.Native.Nat.{ℕ, zero, suc, _+_, _≤_, _<_}
@@ -33,6 +33,7 @@ unfolding countWhere
 count-agree zero test test' e = refl
 count-agree (suc n) test test' e = (λ i. count-agree n test test' (λ k l. e k (omega arith)) i + tally (e n (le-refl (suc n)) i))
 
+-- what one test counts
 pub tally-some : (b : Bool) → (tally b ≡ 0 → ⊥) → b ≡ true
 tally-some true h = refl
 tally-some false h = absurd (h refl)

@@ -3,12 +3,10 @@ ghost use mathlib.Core.Path.{_≡_};
 ghost use Prim.Native.Nat.{ℕ, _+_, _≤_, _<_};
 ghost use lib.ListN.{length, replicate};
 ghost use Rattle.exponential.specs.ExpNeg.{plusZero};
-ghost use Rattle.softmax.specs.Lists.{elementOf};
 ghost use Rattle.call.specs.Limits.{totalOf};
-ghost use Rattle.attention.specs.Elements.{positionCell};
 ghost use Rattle.attention.specs.Admission.{repeated};
-ghost use Rattle.admitted_sum.specs.Sums.{maskHas, admittedBy, addedRowOf};
-ghost use Rattle.row_runs.specs.Runs.{RunFits};
+ghost use Rattle.admitted_sum.specs.Sums.{maskHas};
+ghost use Rattle.row_runs.specs.Runs.{RunFits, weighedRun, weighedRow};
 use call::Call;
 
 // The output row with the weighted values of the admitted positions from `from` on added, as many as there are weights, all in one of the two tensors.
@@ -28,7 +26,7 @@ fn weigh_run<'a>(
     requires { ⌜ length (now out) ≡ call .vsize ⌝ }
     requires { ⌜ RunFits call (length (now past)) (length (now incoming)) (call .vsize) b g from (length (now weights)) ⌝ }
     requires { ⌜ (at + from + length (now weights) < 0x100000000) × ((k : ℕ) → k < from + length (now weights) → maskHas (call .mask) (length (now bytes)) (length (now cells)) (at + repeated (call .maskk) k)) ⌝ }
-    ensures { λ _. ⌜ now (out .exit) ≡ addedRowOf (length (now (weights .entry))) (λ j. admittedBy (call .mask) (now (bytes .entry)) (now (cells .entry)) (at + repeated (call .maskk) (from + j))) (elementOf (now (weights .entry))) (λ j k. positionCell call (now (past .entry)) (now (incoming .entry)) (call .vsize) b g (from + j) k) (now (out .entry)) ⌝ }
+    ensures { λ _. ⌜ now (out .exit) ≡ weighedRun call (now (bytes .entry)) (now (cells .entry)) at (now (past .entry)) (now (incoming .entry)) b g from (now (weights .entry)) (now (out .entry)) ⌝ }
 {
     if weights.len() == 0 {
         return;
@@ -68,7 +66,7 @@ fn weigh_positions<'a>(
     requires { ⌜ RunFits call (length (now past)) (length (now incoming)) (call .vsize) b g (call .past) 0 ⌝ }
     requires { ⌜ length (now weights) ≤ totalOf call ⌝ }
     requires { ⌜ (at + length (now weights) < 0x100000000) × ((k : ℕ) → k < length (now weights) → maskHas (call .mask) (length (now bytes)) (length (now cells)) (at + repeated (call .maskk) k)) ⌝ }
-    ensures { λ _. ⌜ now (out .exit) ≡ addedRowOf (length (now (weights .entry))) (λ j. admittedBy (call .mask) (now (bytes .entry)) (now (cells .entry)) (at + repeated (call .maskk) j)) (elementOf (now (weights .entry))) (λ j k. positionCell call (now (past .entry)) (now (incoming .entry)) (call .vsize) b g j k) (now (out .entry)) ⌝ }
+    ensures { λ _. ⌜ now (out .exit) ≡ weighedRow call (now (bytes .entry)) (now (cells .entry)) at (now (past .entry)) (now (incoming .entry)) b g (now (weights .entry)) (now (out .entry)) ⌝ }
 {
     let cut = row_scores::smaller(call.past, weights.len());
     weigh_run(
@@ -116,7 +114,7 @@ pub fn output_row<'a>(
     requires { ⌜ RunFits call (length (now past)) (length (now incoming)) (call .vsize) b g (call .past) 0 ⌝ }
     requires { ⌜ length (now weights) ≤ totalOf call ⌝ }
     requires { ⌜ (at + length (now weights) < 0x100000000) × ((k : ℕ) → k < length (now weights) → maskHas (call .mask) (length (now bytes)) (length (now cells)) (at + repeated (call .maskk) k)) ⌝ }
-    ensures { λ _. ⌜ now (out .exit) ≡ addedRowOf (length (now (weights .entry))) (λ j. admittedBy (call .mask) (now (bytes .entry)) (now (cells .entry)) (at + repeated (call .maskk) j)) (elementOf (now (weights .entry))) (λ j k. positionCell call (now (past .entry)) (now (incoming .entry)) (call .vsize) b g j k) (replicate (call .vsize) plusZero) ⌝ }
+    ensures { λ _. ⌜ now (out .exit) ≡ weighedRow call (now (bytes .entry)) (now (cells .entry)) at (now (past .entry)) (now (incoming .entry)) b g (now (weights .entry)) (replicate (call .vsize) plusZero) ⌝ }
 {
     row_copies::fill_row(out, 0.0);
     weigh_positions(call, bytes, cells, at, past, incoming, b, g, weights, out);

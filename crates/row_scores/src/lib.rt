@@ -4,11 +4,8 @@ ghost use mathlib.Core.Bool.{true};
 ghost use Prim.Native.Nat.{_+_, _≤_};
 ghost use lib.ListN.{length};
 ghost use Rattle.tensor_laws.specs.Layout.{tabulate};
-ghost use Rattle.softmax.specs.Row.{scoreOf};
-ghost use Rattle.softmax.specs.Lists.{elementOf};
 ghost use Rattle.call.specs.Limits.{totalOf};
-ghost use Rattle.attention.specs.Elements.{positionCell};
-ghost use Rattle.row_runs.specs.Runs.{Smaller, ScoresDone, RunFits};
+ghost use Rattle.row_runs.specs.Runs.{Smaller, ScoresDone, RunFits, positionScore};
 use call::Call;
 
 // The smaller of two numbers.
@@ -32,7 +29,7 @@ fn score_run<'a>(
 )
     requires { ⌜ length (now q) ≡ call .size ⌝ }
     requires { ⌜ RunFits call (length (now past)) (length (now incoming)) (call .size) b g from (length (now row)) ⌝ }
-    ensures { λ _. ⌜ now (row .exit) ≡ tabulate (length (now (row .entry))) (λ j. scoreOf (call .size) (elementOf (now (q .entry))) (positionCell call (now (past .entry)) (now (incoming .entry)) (call .size) b g (from + j)) scale) ⌝ }
+    ensures { λ _. ⌜ now (row .exit) ≡ tabulate (length (now (row .entry))) (λ j. positionScore call scale (now (q .entry)) (now (past .entry)) (now (incoming .entry)) b g (from + j)) ⌝ }
 {
     if row.len() == 0 {
         return;
@@ -57,7 +54,7 @@ fn score_positions<'a>(
     requires { ⌜ length (now q) ≡ call .size ⌝ }
     requires { ⌜ RunFits call (length (now past)) (length (now incoming)) (call .size) b g (call .past) 0 ⌝ }
     requires { ⌜ length (now row) ≤ totalOf call ⌝ }
-    ensures { λ _. ⌜ now (row .exit) ≡ tabulate (length (now (row .entry))) (λ j. scoreOf (call .size) (elementOf (now (q .entry))) (positionCell call (now (past .entry)) (now (incoming .entry)) (call .size) b g j) scale) ⌝ }
+    ensures { λ _. ⌜ now (row .exit) ≡ tabulate (length (now (row .entry))) (positionScore call scale (now (q .entry)) (now (past .entry)) (now (incoming .entry)) b g) ⌝ }
 {
     let cut = smaller(call.past, row.len());
     score_run(call, scale, q, past, incoming, b, g, 0, &mut row[..cut]);
@@ -81,7 +78,7 @@ pub fn score_row<'a>(
     requires { ⌜ length (now q) ≡ call .size ⌝ }
     requires { ⌜ RunFits call (length (now past)) (length (now incoming)) (call .size) b g (call .past) 0 ⌝ }
     requires { ⌜ (m ≤ totalOf call) × (m ≤ length (now work)) × ((dots ≡ true) → m ≤ length (now shown)) ⌝ }
-    ensures { λ _. ⌜ ScoresDone m (λ j. scoreOf (call .size) (elementOf (now (q .entry))) (positionCell call (now (past .entry)) (now (incoming .entry)) (call .size) b g j) scale) dots (now (shown .entry)) (now (work .entry)) (now (shown .exit)) (now (work .exit)) ⌝ }
+    ensures { λ _. ⌜ ScoresDone m (positionScore call scale (now (q .entry)) (now (past .entry)) (now (incoming .entry)) b g) dots (now (shown .entry)) (now (work .entry)) (now (shown .exit)) (now (work .exit)) ⌝ }
 {
     score_positions(call, scale, q, past, incoming, b, g, &mut work[..m]);
     row_shown::show(dots, &work[..m], 0.0, shown);
