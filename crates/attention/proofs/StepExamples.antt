@@ -1,7 +1,9 @@
--- The step entry on worked examples, by computation: E through it, refusals of the table behind 10, and 10 before 1. Assumes nothing.
+-- The step entry on worked examples, by computation: E through it, refusals of the table behind 10, and 10 before 1; and the tensors that its contract names. Assumes nothing.
 use mathlib.Core.Path.{_≡_, refl}
 use mathlib.Core.List.{[], _∷_}
 use lib.Ieee.{nan}
+use Rattle.attention.specs.StepLent.{stepGiven, stepBefore, stepAfter}
+use Rattle.call.proofs.LentExamples.{lent, number}
 use Rattle.exponential.specs.ExpNeg.{one}
 use Rattle.call.specs.declared.Form.the-variants.{Plain, Cached}
 use Rattle.call.specs.declared.MaskKind.the-variants.{NoMask}
@@ -25,6 +27,13 @@ pub record StepExamplesHold : Type 0 where
   pub plain : stepOf (small Plain NoMask NoScores 1 0 1 1) (stepInputs (one ∷ []) (one ∷ []) (one ∷ []) [] []) (stepOutputs (zeros 1) [] [] (zeros 1)) ≡ outcomeOf (NotDone Profile) (stepOutputs (zeros 1) [] [] (zeros 1))
   pub two-positions : stepOf (small Cached NoMask NoScores 1 0 2 2) inputsE lentE ≡ outcomeOf (NotDone Profile) lentE
   pub ten-before-one : stepOf (small Cached NoMask NoScores 1 1 0 1) inputsE lentE ≡ outcomeOf (NotDone Profile) lentE
+  -- each lent tensor in its place, before the call as it came in and after it as it goes out
+  pub given : stepGiven (lent (number 1) (number 11)) (lent (number 2) (number 12)) (lent (number 3) (number 13)) (lent (number 4) (number 14)) (lent (number 5) (number 15))
+      ≡ stepInputs (number 1 ∷ []) (number 2 ∷ []) (number 3 ∷ []) (number 4 ∷ []) (number 5 ∷ [])
+  pub before : stepBefore (lent (number 1) (number 11)) (lent (number 2) (number 12)) (lent (number 3) (number 13)) (lent (number 4) (number 14))
+      ≡ stepOutputs (number 1 ∷ []) (number 2 ∷ []) (number 3 ∷ []) (number 4 ∷ [])
+  pub after : stepAfter (lent (number 1) (number 11)) (lent (number 2) (number 12)) (lent (number 3) (number 13)) (lent (number 4) (number 14))
+      ≡ stepOutputs (number 11 ∷ []) (number 12 ∷ []) (number 13 ∷ []) (number 14 ∷ [])
 
 pub step-examples-hold : StepExamplesHold
 unfolding stepOf
@@ -37,4 +46,7 @@ step-examples-hold = record {
   plain = refl;
   two-positions = refl;
   ten-before-one = refl;
+  given = refl;
+  before = refl;
+  after = refl;
 }

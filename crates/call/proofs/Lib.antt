@@ -10,3 +10,4 @@ pub mod Places
 pub mod Numbers
 pub mod Entries
 pub mod MaskBounds
+pub mod LentExamples
