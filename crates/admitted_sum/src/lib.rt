@@ -1,4 +1,6 @@
 // The weighted sum of a row over the positions that the mask leaves: run by run, each accumulated as a whole.
+#![tactic(auto)]
+
 ghost use Rattle.std.specs.Prelude.{◌≡◌, ℕ, ◌+◌, ◌*◌, ◌≤◌, ◌<◌, length};
 ghost use Rattle.softmax.specs.Lists.{element_of};
 ghost use Rattle.attention.specs.Admission.{repeated};

@@ -1,1 +1,2 @@
 // The whole call of attention.
+#![tactic(auto)]

@@ -1,4 +1,6 @@
 // The present cache of one key head: its past rows and then its incoming rows.
+#![tactic(auto)]
+
 ghost use Rattle.std.specs.Prelude.{◌≡◌, ◌<◌, length};
 ghost use Rattle.std.specs.Float.{nan};
 ghost use Rattle.tensor_laws.specs.Layout.{written_of};

@@ -1,4 +1,6 @@
 // Where the row of a position stands, in the past cache or in the incoming tensor.
+#![tactic(auto)]
+
 ghost use Rattle.std.specs.Prelude.{◌≡◌, true, ◌+◌, ◌*◌, ◌≤◌, ◌<◌, length};
 ghost use Rattle.tensor_laws.specs.Layout.{slot};
 ghost use Rattle.call.specs.Limits.{total_of, limits_hold};

@@ -1,4 +1,5 @@
 // The call record of attention, its enums, and the answer. Every number may be anything that its type holds.
+#![tactic(auto)]
 
 // The limits of B, of Hq and Hkv, of Sq, Sk and T, and of D and Dv.
 pub const MOST_BATCHES: usize = 8;

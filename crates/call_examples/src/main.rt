@@ -2,6 +2,8 @@
 // What it reads and what it must print are made by tools, what it must print by a reference that shares no code with the crates:
 //     python3 tools/vectors.py calls > crates/call_examples/stdin
 //     python3 tools/vectors.py examples > crates/call_examples/stdout
+#![tactic(auto)]
+
 mod calls;
 mod input;
 mod lines;

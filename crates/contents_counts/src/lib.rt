@@ -1,4 +1,6 @@
 // Refusal 7: the live counts, searched from their start; and the live count as the rows use it.
+#![tactic(auto)]
+
 ghost use Rattle.std.specs.Prelude.{◌≡◌, ◌≤◌, ◌<◌, length};
 ghost use Rattle.call.specs.declared.Refusal.TheVariants.{LiveCount};
 ghost use Rattle.call.specs.Limits.{total_of};

@@ -1,4 +1,6 @@
 // Refusal 9 in one tensor, every element: a pass over blocks of 64 elements counts faults with no branch on an element, and stops at the first block that has one or before a last shorter one; only there is an index looked for.
+#![tactic(auto)]
+
 ghost use Rattle.std.specs.Prelude.{◌≡◌, length};
 ghost use Rattle.bool_laws.specs.Counts.{tally};
 ghost use Rattle.call.specs.Contents.{element_fault, tensor_fault};

@@ -1,4 +1,6 @@
 // Refusal 9 in K and V. Padded elements are never read.
+#![tactic(auto)]
+
 ghost use Rattle.std.specs.Prelude.{◌≡◌, ◌≤◌, true, ℕ, ◌*◌, ◌<◌, length};
 ghost use Rattle.call.specs.Contents.{live_fault};
 ghost use Rattle.call.specs.Limits.{limits_hold};

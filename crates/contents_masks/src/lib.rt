@@ -1,4 +1,6 @@
 // Refusal 8: the mask's cells, searched from their start; and refusals 7 and 8 in their order.
+#![tactic(auto)]
+
 ghost use Rattle.std.specs.Prelude.{◌≡◌, [], ◌≤◌};
 ghost use Rattle.call.specs.Tensors.{inputs_of};
 ghost use Rattle.call.specs.declared.Refusal.TheVariants.{MaskCell};

@@ -1,4 +1,6 @@
 // Refusal 9: the elements of Q, past key, K, past value and V, searched in that order.
+#![tactic(auto)]
+
 ghost use Rattle.std.specs.Prelude.{◌≡◌, [], ◌≤◌, true, ◌*◌, length};
 ghost use Rattle.call.specs.Tensors.{inputs_of};
 ghost use Rattle.call.specs.Contents.{live_fault};

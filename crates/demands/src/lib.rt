@@ -1,1 +1,2 @@
 // Theorems alone: the three demands, over the contract of the entry.
+#![tactic(auto)]

@@ -1,4 +1,6 @@
 // The attention operator's entry: it checks a call, and then either answers the first refusal that applies or does the call.
+#![tactic(auto)]
+
 ghost use Rattle.std.specs.Prelude.{◌≡◌};
 ghost use Rattle.call.specs.Lent.{inputs_now, inputs_given, outputs_now, outputs_before, outputs_after};
 ghost use Rattle.call.specs.Refusals.{verdict_of};

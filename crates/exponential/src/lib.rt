@@ -1,4 +1,5 @@
 // The house exponential E(d), near e^-d, by the power table. Definitions and laws; no functions.
+#![tactic(auto)]
 
 // The bits of LOG2E, C1 and C2.
 pub const LOG2E: u32 = 0x3fb8aa3b;

@@ -1,4 +1,6 @@
 // The house exponential E(d) on one number.
+#![tactic(auto)]
+
 ghost use Rattle.std.specs.Prelude.{◌≡◌, T};
 ghost use Rattle.tables.specs.Power.{power_bits};
 ghost use Rattle.exponential.specs.ExpNeg.{in_range, below_limit_of, exp_neg_of};

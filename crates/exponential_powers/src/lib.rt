@@ -1,4 +1,6 @@
 // The last steps of E over a row: the product by the table, and the product by 2^-k.
+#![tactic(auto)]
+
 ghost use Rattle.std.specs.Prelude.{◌≡◌, ℕ, ◌-◌, ◌*◌, ◌/◌, ◌%◌, ◌≤◌, ◌<◌, length, get_or};
 ghost use mathlib.Core.List.{zip_with};
 ghost use Rattle.std.specs.Float.{binary32};

@@ -1,4 +1,6 @@
 // The house exponential over a row, in blocks: the product by the power of two, and all steps together.
+#![tactic(auto)]
+
 ghost use Rattle.std.specs.Prelude.{◌≡◌, ◌≤◌, length};
 ghost use Rattle.tables.specs.Power.{power_bits};
 ghost use Rattle.exponential.specs.ExpNeg.{exp_neg_row_of};

@@ -1,4 +1,6 @@
 // The first steps of E over a row: the exponents, and the polynomial at the rest of each.
+#![tactic(auto)]
+
 ghost use Rattle.std.specs.Prelude.{◌≡◌, ◌≤◌, map};
 ghost use Rattle.exponential.specs.ExpNeg.{whole_part_of, rest_of, poly_of};
 ghost use Rattle.exponential.specs.Blocks.{exponent_of, exponents_of, Exponents, polys_of};

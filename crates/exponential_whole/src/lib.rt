@@ -1,4 +1,6 @@
 // The whole part of E, n, on one number and over a row.
+#![tactic(auto)]
+
 ghost use Rattle.std.specs.Prelude.{◌≡◌, min, T, map, length};
 ghost use Rattle.exponential.specs.ExpNeg.{in_range, whole_part_of};
 ghost use Rattle.exponential.specs.Blocks.{Exponent, Exponents};

@@ -1,1 +1,2 @@
 // Query heads one after the other, and the present caches. Definitions and laws; no functions.
+#![tactic(auto)]

@@ -1,4 +1,6 @@
 // Every query head of every batch, and the present caches.
+#![tactic(auto)]
+
 ghost use Rattle.std.specs.Prelude.{◌≡◌, length};
 ghost use Rattle.call.specs.Limits.{total_of};
 ghost use Rattle.call.specs.Lengths.{output_length, present_key_length, present_value_length, scores_length};

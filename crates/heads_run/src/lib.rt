@@ -1,4 +1,6 @@
 // A run of query heads.
+#![tactic(auto)]
+
 ghost use Rattle.std.specs.Prelude.{◌≡◌, ◌*◌, ◌≤◌, length};
 ghost use Rattle.call.specs.Limits.{total_of};
 ghost use Rattle.call.specs.Lengths.{output_length, scores_length};

@@ -1,4 +1,5 @@
 // The call record and the answer as numbers, and what the exported functions give back. Definitions and laws; no functions.
+#![tactic(auto)]
 
 // An answer as numbers.
 #[derive(Drop)]

@@ -1,4 +1,6 @@
 // A refusal and an answer as numbers. Every function takes any of them.
+#![tactic(auto)]
+
 ghost use Rattle.std.specs.Prelude.{◌≡◌};
 ghost use Rattle.call.specs.Answers.{number_of, fault_tensor_of, place_of, report_of};
 ghost use Rattle.interface.specs.Report.{report_in};

@@ -1,4 +1,6 @@
 // A call record from its numbers. `decode` takes any numbers.
+#![tactic(auto)]
+
 ghost use Rattle.std.specs.Prelude.{◌≡◌};
 ghost use Rattle.interface.specs.Record.{number_at, form_of, mask_kind_of, scale_of, mode_of, rank_of, call_of};
 

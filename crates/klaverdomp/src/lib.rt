@@ -1,5 +1,7 @@
 // The operator's exported functions: a call record as 18 numbers, a scale and a cap is decoded, the entry is called, and the answer is given back as numbers.
 // Every function takes any arguments. The number at the end of a name is the edition of the binary interface.
+#![tactic(auto)]
+
 pub mod sessions;
 
 ghost use Rattle.std.specs.Prelude.{◌≡◌};

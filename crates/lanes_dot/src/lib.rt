@@ -1,4 +1,6 @@
 // The four lanes of one key, each its own sum in the order of step 1, and the dot product.
+#![tactic(auto)]
+
 ghost use Rattle.std.specs.Prelude.{◌≡◌, ◌+◌, ◌%◌, ◌≤◌, length};
 ghost use Rattle.softmax.specs.Lists.{dot_row_of};
 ghost use Rattle.lanes.specs.Sums.{lanes_of};

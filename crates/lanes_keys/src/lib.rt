@@ -1,4 +1,6 @@
 // The lanes of many keys, four keys a pass.
+#![tactic(auto)]
+
 ghost use Rattle.std.specs.Prelude.{◌≡◌, ℕ, ◌+◌, ◌*◌, ◌/◌, ◌%◌, ◌≤◌, ◌<◌, length};
 ghost use Rattle.tensor_laws.specs.Layout.{tabulate};
 ghost use Rattle.lanes.specs.Sums.{lane_at};

@@ -1,1 +1,2 @@
 // Records of saved files: heads, little-endian numbers, f32 bits. Definitions and laws; no functions.
+#![tactic(auto)]

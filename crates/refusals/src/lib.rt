@@ -1,4 +1,6 @@
 // The check that decides the nine refusals, one link after the other in their order. It reads what the caller lends and writes nothing.
+#![tactic(auto)]
+
 ghost use Rattle.std.specs.Prelude.{◌≡◌};
 ghost use Rattle.call.specs.Tensors.{Outputs};
 ghost use Rattle.call.specs.Lent.{inputs_given};

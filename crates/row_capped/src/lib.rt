@@ -1,4 +1,6 @@
 // The mask and the cap on a row of scores, and what is shown of it in modes 1 and 2.
+#![tactic(auto)]
+
 ghost use Rattle.std.specs.Prelude.{◌≡◌, ℕ, ◌+◌, ◌≤◌, true, length};
 ghost use Rattle.attention.specs.Admission.{repeated};
 ghost use Rattle.row_steps.specs.Steps.{masked_row_by, MaskRowFits, shows_of, CapDone};

@@ -1,4 +1,6 @@
 // A row that is filled with one number, and one that becomes another. Rows are parts of the caller's slices, read and written where they stand.
+#![tactic(auto)]
+
 ghost use Rattle.std.specs.Prelude.{◌≡◌, length, replicate};
 
 // Every element becomes x.

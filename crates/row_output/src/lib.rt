@@ -1,4 +1,6 @@
 // The output of a row, over the past's positions and then the incoming ones.
+#![tactic(auto)]
+
 ghost use Rattle.std.specs.Prelude.{◌≡◌, ℕ, ◌+◌, ◌≤◌, ◌<◌, length, replicate};
 ghost use Rattle.exponential.specs.ExpNeg.{plus_zero};
 ghost use Rattle.call.specs.Limits.{total_of};

@@ -1,4 +1,6 @@
 // The scores of a row, over the past's positions and then the incoming ones.
+#![tactic(auto)]
+
 ghost use Rattle.std.specs.Prelude.{◌≡◌, true, ◌+◌, ◌≤◌, length};
 ghost use Rattle.tensor_laws.specs.Layout.{tabulate};
 ghost use Rattle.call.specs.Limits.{total_of};

@@ -1,4 +1,6 @@
 // What is shown of a row of scores.
+#![tactic(auto)]
+
 ghost use Rattle.std.specs.Prelude.{◌≡◌, ◌≤◌, true, length};
 ghost use Rattle.row_steps.specs.Steps.{shows_of, shown_where};
 

@@ -1,4 +1,6 @@
 // Steps 2 to 4 of one row of attention on its lists: the mask and the cap, softmax, and the scores shown.
+#![tactic(auto)]
+
 ghost use Rattle.std.specs.Prelude.{◌≡◌, ◌+◌, ◌≤◌, T, length, take};
 ghost use Rattle.softmax.specs.Lists.{is_score_row};
 ghost use Rattle.softmax.specs.Cap.{capped_row_where};

@@ -1,4 +1,6 @@
 // Where a row of attention looks: the run of positions that it may see, and the start of its mask cells.
+#![tactic(auto)]
+
 ghost use Rattle.std.specs.Prelude.{◌≡◌, ◌+◌, ◌<◌, true};
 ghost use Rattle.call.specs.Limits.{limits_hold, mask_shape_holds};
 ghost use Rattle.attention.specs.Admission.{reach, repeated};

@@ -1,4 +1,6 @@
 // One row of attention: scores, mask, cap, softmax and weighted sum, read and written where it stands.
+#![tactic(auto)]
+
 ghost use Rattle.std.specs.Prelude.{◌≡◌, ◌<◌, length};
 ghost use Rattle.call.specs.Limits.{total_of};
 ghost use Rattle.call.specs.Lengths.{in_scores};

@@ -1,4 +1,6 @@
 // The rows of one query head, each written where it stands; and the scale, once a call.
+#![tactic(auto)]
+
 ghost use Rattle.std.specs.Prelude.{◌≡◌, ◌+◌, ◌≤◌, ◌<◌, length};
 ghost use Rattle.call.specs.Limits.{total_of};
 ghost use Rattle.call.specs.Lengths.{output_length, scores_length};

@@ -1,4 +1,6 @@
 // The numbers that the rows of a call need: the scale, the key head of a query head, how many scores are taken and shown, and a truth value as a count.
+#![tactic(auto)]
+
 ghost use Rattle.std.specs.Prelude.{◌≡◌, cond, ◌/◌, ◌≤◌};
 ghost use Rattle.bool_laws.specs.Counts.{tally};
 ghost use Rattle.call.specs.Limits.{total_of};

@@ -1,4 +1,6 @@
 // The cap on a row of scores: each score s becomes c * t, with t near tanh(s / c), and a hidden position stays. A row is capped in blocks of 64, each step over all elements of a block before the next, so that E is taken of a whole block.
+#![tactic(auto)]
+
 ghost use Rattle.std.specs.Prelude.{◌≡◌, ◌≤◌, length};
 ghost use Rattle.softmax.specs.Cap.{capped_row_of, capped_row_where};
 

@@ -1,4 +1,6 @@
 // The scores of a row's keys: the lanes of up to sixteen keys, then joined and scaled, in the order of step 1.
+#![tactic(auto)]
+
 ghost use Rattle.std.specs.Prelude.{◌≡◌, ℕ, ◌+◌, ◌*◌, ◌%◌, ◌≤◌, ◌<◌, length};
 ghost use Rattle.tensor_laws.specs.Layout.{tabulate};
 ghost use Rattle.softmax.specs.Lists.{score_rows_of};

@@ -1,4 +1,6 @@
 // The answers of the reader and the writer of saved sessions as numbers.
+#![tactic(auto)]
+
 ghost use Rattle.std.specs.Prelude.{◌≡◌};
 ghost use Rattle.session_file.specs.Numbers.{reading_report, saving_report};
 ghost use Rattle.session_interface.specs.Numbers.{ReadingHolds, reading_in, saving_in};

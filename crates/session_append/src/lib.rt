@@ -1,4 +1,6 @@
 // Adds positions to the file of a saved session, all of them or none. `append` takes any numbers and any buffer.
+#![tactic(auto)]
+
 ghost use Rattle.std.specs.Prelude.{◌≡◌, true, ◌≤◌};
 ghost use Rattle.session_file.specs.Sizes.{sizes_hold};
 ghost use Rattle.session_file.specs.declared.Reading.TheVariants.{SessionRead};

@@ -1,4 +1,6 @@
 // Begins the file of a saved session. `begin` takes any sizes and any buffer.
+#![tactic(auto)]
+
 ghost use Rattle.std.specs.Prelude.{◌≡◌, true, ◌≤◌, length};
 ghost use Rattle.records.specs.Records.{written_at};
 ghost use Rattle.session_file.specs.Sizes.{sizes_hold};

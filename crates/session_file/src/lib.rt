@@ -1,4 +1,6 @@
 // The types of saved sessions: the sizes that a file begins with, what reading a file gives, and what writing one answers. Every number may be anything that its type holds.
+#![tactic(auto)]
+
 use call::Refusal;
 
 #[derive(Drop)]

@@ -1,4 +1,6 @@
 // What stands in the file of a saved session. `inspect` takes any bytes.
+#![tactic(auto)]
+
 ghost use Rattle.std.specs.Prelude.{◌≡◌, ◌≤◌, length};
 ghost use Rattle.session_file.specs.Reader.{sizes_at, read_of};
 

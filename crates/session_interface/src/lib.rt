@@ -1,4 +1,5 @@
 // The answers of the reader and the writer of saved sessions as numbers, and what the exported functions give back. Definitions and laws; no functions.
+#![tactic(auto)]
 
 // A reading as numbers.
 #[derive(Drop)]

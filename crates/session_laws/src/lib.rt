@@ -1,1 +1,2 @@
 // What reading and writing saved sessions promises. Definitions and theorems, no functions.
+#![tactic(auto)]

@@ -1,4 +1,6 @@
 // The positions of a saved session in lent caches. `load` takes any bytes and any caches.
+#![tactic(auto)]
+
 ghost use Rattle.std.specs.Prelude.{◌≡◌, true, false, ℕ, ◌+◌, ◌*◌, ◌%◌, ◌≤◌, ◌<◌, length};
 ghost use Rattle.session_file.specs.Sizes.{sizes_hold, rows_of, record_start};
 ghost use Rattle.session_file.specs.Reader.{position_fault, cache_at, loaded, load_of};

@@ -1,4 +1,6 @@
 // The records of the positions that are to be saved.
+#![tactic(auto)]
+
 ghost use Rattle.std.specs.Prelude.{◌≡◌, false, ◌++◌, ℕ, ◌+◌, ◌*◌, ◌<◌, length};
 ghost use Rattle.records.specs.Numbers.{row_bytes};
 ghost use Rattle.session_file.specs.Below.{joined};

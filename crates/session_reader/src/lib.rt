@@ -1,1 +1,2 @@
 // What the reader of saved sessions rests on. Laws alone.
+#![tactic(auto)]

@@ -1,4 +1,6 @@
 // The rows that are to be saved, searched for faults.
+#![tactic(auto)]
+
 ghost use Rattle.std.specs.Prelude.{◌≡◌, ◌≤◌, ◌<◌, length, get_or};
 ghost use Rattle.std.specs.Float.{nan};
 ghost use Rattle.bool_laws.specs.Counts.{count_where};

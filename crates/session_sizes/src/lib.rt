@@ -1,4 +1,6 @@
 // The sizes of a saved session: whether they hold, and the lengths and places that follow from them.
+#![tactic(auto)]
+
 ghost use Rattle.std.specs.Prelude.{◌≡◌, true, ◌≤◌};
 ghost use Rattle.session_file.specs.Sizes.{sizes_hold, payload_length, record_start};
 ghost use Rattle.session_file.specs.Reader.{caches_fit};

@@ -1,4 +1,6 @@
 // The walk over the records of positions of a saved session.
+#![tactic(auto)]
+
 ghost use Rattle.std.specs.Prelude.{◌≡◌, true, ◌≤◌};
 ghost use Rattle.session_file.specs.Sizes.{sizes_hold};
 ghost use Rattle.session_file.specs.Reader.{next_of, walk_from};

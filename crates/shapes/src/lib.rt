@@ -1,1 +1,2 @@
 // What the tests of a record and of lengths rest on. Definitions and laws; no functions.
+#![tactic(auto)]

@@ -1,4 +1,6 @@
 // Refusals 5 and 6: the lengths of the lent tensors.
+#![tactic(auto)]
+
 ghost use Rattle.std.specs.Prelude.{◌≡◌, true};
 ghost use Rattle.call.specs.Tensors.{Outputs};
 ghost use Rattle.call.specs.Lent.{inputs_given};

@@ -1,4 +1,6 @@
 // Refusals 1 to 4: the record.
+#![tactic(auto)]
+
 ghost use Rattle.std.specs.Prelude.{◌≡◌, ◌≤◌};
 ghost use Rattle.call.specs.Limits.{total_of, limits_hold, groups_hold, settings_hold, dimensions_hold, mask_shape_holds};
 ghost use Rattle.call.specs.Refusals.{record_verdict};

@@ -1,4 +1,6 @@
 // The settings of a call, each tested by itself.
+#![tactic(auto)]
+
 ghost use Rattle.std.specs.Prelude.{◌≡◌, ◌≤◌};
 ghost use Rattle.call.specs.Limits.{groups_allowed, rank_allowed, causal_allowed, mode_allowed, scale_allowed, cap_allowed};
 

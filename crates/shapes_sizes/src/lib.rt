@@ -1,4 +1,6 @@
 // The right lengths of the lent tensors.
+#![tactic(auto)]
+
 ghost use Rattle.std.specs.Prelude.{◌≡◌, true, ◌*◌, ◌≤◌};
 ghost use Rattle.call.specs.Limits.{limits_hold, mask_shape_holds};
 ghost use Rattle.call.specs.Lengths.{in_cached, in_boolean, in_float, mask_length, live_length, scores_length};

@@ -1,4 +1,6 @@
 // Tests of single values of a record.
+#![tactic(auto)]
+
 ghost use Rattle.std.specs.Prelude.{◌≡◌, ◌||◌, eqb};
 ghost use Rattle.call.specs.Limits.{within, past_allowed};
 

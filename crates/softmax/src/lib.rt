@@ -1,1 +1,2 @@
 // One row of attention: its formula. Definitions, laws and computed examples; no functions.
+#![tactic(auto)]

@@ -1,4 +1,6 @@
 // One row of attention: the weights of a row of scores, in place. Rows are parts of the caller's slices, read and written where they stand.
+#![tactic(auto)]
+
 ghost use Rattle.std.specs.Prelude.{◌≡◌, ◌≤◌, T, length, map};
 ghost use Rattle.std.specs.Float.{binary32};
 ghost use Rattle.std.specs.Float.Ieee.{div};

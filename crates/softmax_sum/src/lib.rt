@@ -1,4 +1,6 @@
 // One row of attention: the weighted sum, a position after the other.
+#![tactic(auto)]
+
 ghost use Rattle.std.specs.Prelude.{◌≡◌, ℕ, ◌+◌, ◌*◌, ◌≤◌, ◌<◌, length};
 ghost use Rattle.softmax.specs.Lists.{accumulated_row_of, weighted_rows_of};
 

@@ -1,4 +1,6 @@
 // The step entry: one position of one batch on a cache, which is the call that a decoder makes at every step. It takes the records of the step profile alone.
+#![tactic(auto)]
+
 ghost use Rattle.std.specs.Prelude.{◌≡◌};
 ghost use Rattle.attention.specs.StepLent.{step_given, step_before, step_after};
 ghost use Rattle.attention.specs.Outcomes.{outcome_of};

@@ -1,4 +1,6 @@
 // Whether a record is of the step profile.
+#![tactic(auto)]
+
 ghost use Rattle.std.specs.Prelude.{◌≡◌};
 ghost use Rattle.call.specs.Profile.{is_cached, is_unmasked, is_unscored, profile_holds};
 

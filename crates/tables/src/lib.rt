@@ -1,5 +1,7 @@
 // The two constant tables: the power table 2^-(f/256) of the house exponential, and the default scale 1 / √D of a head size D.
 // Every function takes any arguments: an enum answers what has no value.
+#![tactic(auto)]
+
 pub mod table;
 
 ghost use Rattle.std.specs.Prelude.{◌≡◌};

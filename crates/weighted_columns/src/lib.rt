@@ -1,4 +1,6 @@
 // The weighted sum of sixteen columns, kept in a local array over the positions of a block.
+#![tactic(auto)]
+
 ghost use Rattle.std.specs.Prelude.{◌≡◌, ℕ, ◌+◌, ◌*◌, ◌≤◌, ◌<◌, length};
 ghost use Rattle.softmax.specs.Lists.{weighted_rows_of};
 

@@ -1,4 +1,6 @@
 // The weighted sum of a row's values, sixteen columns of the output row at a time in a local array over blocks of positions, each column its own sum in the order of step 5.
+#![tactic(auto)]
+
 ghost use Rattle.std.specs.Prelude.{◌≡◌, ℕ, ◌+◌, ◌*◌, ◌≤◌, ◌<◌, length};
 ghost use Rattle.softmax.specs.Lists.{weighted_rows_of};
 
