@@ -137,6 +137,9 @@ record Short (x : Float) : Type 0 where
   few : parts.w < 26
 
 short : (x : Float) → T (fits binary32 x) → T (plus x) → T (le quarter x) → T (le x one) → Short x
+short lib.Ieee.nan t p from to = elim p [ ]
+short (lib.Ieee.inf _) t p from to = elim p [ ]
+short (fin mathlib.Core.Bool.true m e) t p from to = elim p [ ]
 short (fin false m e) t p from to =
     let d = dyadic binary32 false m e t (under (m * up e) (down e) (down_pos e) (le→cross (fin false m e) one tt tt to)) in
     let c = 2 ^ d.w in

@@ -81,6 +81,8 @@ in_range_lem (fin false m e) t h = inr (ranged m e t (and_r (le plus_zero (fin f
 -- ---- n, by y's q and w
 
 whole_is : (y : Float) (q c : ℕ) → 0 < c → HasValue y false q c → whole_part_of y ≡ 256 * q / c
+whole_is nan q c C h = elim h [ ]
+whole_is (inf _) q c C h = elim h [ ]
 whole_is (fin s m e) q c C h =
     div_same (256 * (m * up e)) (down e) (256 * q) c (down_pos e) C
     (mul_assoc 256 (m * up e) c ∙ ap (λ (z : ℕ). 256 * z) h.1 ∙ sym (mul_assoc 256 q (down e)))
@@ -115,6 +117,8 @@ whole_in_range (fin false m e) h =
 
 -- a value has one sign
 one_sign : (y : Float) (a c b d : ℕ) → HasValue y true a c → HasValue y false b d → ⊥
+one_sign nan a c b d p q = elim p [ ]
+one_sign (inf _) a c b d p q = elim p [ ]
 one_sign (fin s m e) a c b d p q = true≢false (sym p.0 ∙ q.0)
 
 -- the pattern has a clear sign and a field of at most 142, and the significand shifted right by the places is n
@@ -221,4 +225,6 @@ shift_is y r f h l e = held significand (r / 8388608) under ∙ elim (pattern h)
 
 -- ---- n is the largest whole number not above 256 * y, for the finite y = num y / den y
 pub whole_largest : (y : Float) → T (finite y) → (whole_part_of y * den y ≤ 256 * num y) × (256 * num y < suc (whole_part_of y) * den y)
+whole_largest nan p = elim p [ ]
+whole_largest (inf _) p = elim p [ ]
 whole_largest (fin s m e) p = (div-mul-le_self (256 * (m * up e)) (down e), (div-lt_iff_lt-mul (down_pos e)).0 (le_refl (suc (256 * (m * up e) / down e))))

@@ -21,6 +21,8 @@ bits f s n = cond s (top f) 0 + (size n - prec f) * hid f + n / 2 ^ (size n - pr
 
 bits_of : (f : Format) (x : Float) (s : Bool) (a c : ℕ) → 0 < c → HasValue x s a c → to_bits f x ≡ bits f s (a * 2 ^ low f / c)
 unfolding to_bits bits
+bits_of f lib.Ieee.nan s a c C h = elim h [ ]
+bits_of f (lib.Ieee.inf _) s a c C h = elim h [ ]
 bits_of f (fin t m e) s a c C h =
     let l = 2 ^ low f in
     let v : m * up e * l * c ≡ a * l * down e = mul_right_comm (m * up e) l c ∙ ap (λ (z : ℕ). z * l) h.1 ∙ mul_right_comm a (down e) l in
@@ -102,6 +104,8 @@ fits_below f s (suc m) e t =
     ltb→lt (suc m * up e) (2 ^ suc (emax f) * down e) (four (eqb (suc m % 2) 1) (ltb (suc m) (2 ^ prec f)) (leb (down e) (2 ^ low f)) (ltb (suc m * up e) (2 ^ suc (emax f) * down e)) t).3
 
 pub round_value : (f : Format) (x : Float) (s : Bool) (a c : ℕ) → 0 < c → T (fits f x) → HasValue x s a c → round f s a c ≡ x
+round_value f lib.Ieee.nan s a c C h v = elim v [ ]
+round_value f (lib.Ieee.inf _) s a c C h v = elim v [ ]
 round_value f (fin t m e) s a c C h v =
     let d = fits_digits f t m e h in
     let (j, k) = shift f e d.1 in

@@ -15,6 +15,10 @@ use lib.Ieee.Scale.{round_same}
 
 pub mul_at : (f : Format) (x y : Float) (s t : Bool) (a c b d : ℕ) → 0 < c → 0 < d → HasValue x s a c → HasValue y t b d → mul f x y ≡ round f (unlike s t) (a * b) (c * d)
 unfolding mul
+mul_at f nan y s t a c b d C D h k = elim h [ ]
+mul_at f (inf _) y s t a c b d C D h k = elim h [ ]
+mul_at f (fin s' m e) nan s t a c b d C D h k = elim k [ ]
+mul_at f (fin s' m e) (inf _) s t a c b d C D h k = elim k [ ]
 mul_at f (fin s' m e) (fin t' n g) s t a c b d C D h k =
     ap (λ (u : Bool). round f (unlike u t') (m * up e * (n * up g)) (down e * down g)) h.0
     ∙ ap (λ (u : Bool). round f (unlike s u) (m * up e * (n * up g)) (down e * down g)) k.0
@@ -33,6 +37,10 @@ no_zero n h t = let e = eqb→eq n 0 t in omega arith
 
 pub div_at : (f : Format) (x y : Float) (s t : Bool) (a c b d : ℕ) → 0 < c → 0 < d → 0 < b → HasValue x s a c → HasValue y t b d → div f x y ≡ round f (unlike s t) (a * d) (b * c)
 unfolding div
+div_at f nan y s t a c b d C D B h k = elim h [ ]
+div_at f (inf _) y s t a c b d C D B h k = elim h [ ]
+div_at f (fin s' m e) nan s t a c b d C D B h k = elim k [ ]
+div_at f (fin s' m e) (inf _) s t a c b d C D B h k = elim k [ ]
 div_at f (fin s' m e) (fin t' n g) s t a c b d C D B h k =
     let N = value_num_pos n g b d B k.1 in
     ap (λ (u : Bool). cond (eqb n 0) (cond (eqb m 0) nan (inf (unlike u t'))) (round f (unlike u t') (m * up e * down g) (n * up g * down e))) h.0
@@ -58,6 +66,10 @@ same_is f false a b c = refl
 
 pub add_at : (f : Format) (x y : Float) (s : Bool) (a c b d : ℕ) → 0 < c → 0 < d → HasValue x s a c → HasValue y s b d → add f x y ≡ round f s (a * d + b * c) (c * d)
 unfolding add
+add_at f nan y s a c b d C D h k = elim h [ ]
+add_at f (inf _) y s a c b d C D h k = elim h [ ]
+add_at f (fin s' m e) nan s a c b d C D h k = elim k [ ]
+add_at f (fin s' m e) (inf _) s a c b d C D h k = elim k [ ]
 add_at f (fin s' m e) (fin t' n g) s a c b d C D h k =
     ap (λ (u : Bool). sum f u (m * up e * down g) t' (n * up g * down e) (down e * down g)) h.0
     ∙ ap (λ (u : Bool). sum f s (m * up e * down g) u (n * up g * down e) (down e * down g)) k.0
@@ -91,6 +103,10 @@ minus_mul : (x y k : ℕ) → (x - y) * k ≡ x * k - y * k
 minus_mul x y k = mul_comm (x - y) k ∙ mul-sub k x y ∙ ap (λ (z : ℕ). z - k * y) (mul_comm k x) ∙ ap (λ (z : ℕ). x * k - z) (mul_comm k y)
 
 pub sub_at : (f : Format) (x y : Float) (a c b d : ℕ) → 0 < c → 0 < d → HasValue x false a c → HasValue y false b d → b * c ≤ a * d → sub f x y ≡ round f false (a * d - b * c) (c * d)
+sub_at f nan y a c b d C D h k l = elim h [ ]
+sub_at f (inf _) y a c b d C D h k l = elim h [ ]
+sub_at f (fin false m e) nan a c b d C D h k l = elim k [ ]
+sub_at f (fin false m e) (inf _) a c b d C D h k l = elim k [ ]
 sub_at f (fin true m e) y a c b d C D h k l = absurd (true≢false h.0)
 sub_at f (fin false m e) (fin true n g) a c b d C D h k l = absurd (true≢false k.0)
 sub_at f (fin false m e) (fin false n g) a c b d C D h k l =

@@ -49,6 +49,8 @@ across u d a c b D v h =
     le_of_mul-le-mul_right n D
 
 by_size : (k : ℕ) (x : Float) (s : Bool) (a c : ℕ) → 0 < c → HasValue x s a c → below_power k x ≡ leb a (2 ^ k * c)
+by_size k nan s a c C v = elim v [ ]
+by_size k (inf _) s a c C v = elim v [ ]
 by_size k (fin r m e) s a c C v =
     same_test (below_power k (fin r m e)) (leb a (2 ^ k * c))
     (λ t. le→leb a (2 ^ k * c) (across (m * up e) (down e) a c (2 ^ k) (down_pos e) v.1 (inside k r m e t)))

@@ -94,5 +94,7 @@ finite_not_nan (fin s m e) p = tt
 
 -- a value that is a fraction with the sign clear
 pub plus_of_value : (x : Float) (a c : ℕ) → HasValue x false a c → T (plus x)
+plus_of_value nan a c v = elim v [ ]
+plus_of_value (inf _) a c v = elim v [ ]
 plus_of_value (fin true m e) a c v = true≢false v.0
 plus_of_value (fin false m e) a c v = tt

@@ -148,6 +148,8 @@ cap_asked_where_valued c s f g h = twice_valued (div binary32 s c) (div_not_nan 
 
 hidden_quotient : (c : Float) → T (finite c) → T (not (is_nan (div binary32 hidden c)))
 unfolding div is_nan
+hidden_quotient nan f = elim f [ ]
+hidden_quotient (inf _) f = elim f [ ]
 hidden_quotient (fin t n d) f = tt
 
 -- nor over a row of scores, at hidden positions too
@@ -195,6 +197,8 @@ length_under_cap c row = go (eq c plus_zero)
     go false = length_capped c row
 
 not_hidden : (s : Float) → T (finite s) → is_hidden s ≡ false
+not_hidden nan f = elim f [ ]
+not_hidden (inf _) f = elim f [ ]
 not_hidden (fin t m e) f = refl
 
 module _ (c : Float) (n : ℕ) (sees : ℕ → Bool) (score : ℕ → Float) (ok : (j : ℕ) → j < n → sees j ≡ true → T (finite (score j))) where

@@ -46,6 +46,8 @@ unfolding sub
 above_hidden s m e = refl
 
 hidden_valued : (m : Float) → T (finite m) → T (has_value (sub binary32 m hidden))
+hidden_valued nan p = elim p [ ]
+hidden_valued (inf _) p = elim p [ ]
 hidden_valued (fin s m e) p = subst (λ (x : Float). T (has_value x)) (sym (above_hidden s m e)) infinity_valued
   where
     infinity_valued : T (has_value (inf false))
@@ -53,6 +55,8 @@ hidden_valued (fin s m e) p = subst (λ (x : Float). T (has_value x)) (sym (abov
 
 hidden_term : (m : Float) → T (finite m) → term_of (largest m) hidden ≡ plus_zero
 unfolding term_of
+hidden_term nan p = elim p [ ]
+hidden_term (inf _) p = elim p [ ]
 hidden_term (fin s m e) p = ap (λ (x : Float). value_or_zero (exp_neg_of x)) (above_hidden s m e) ∙ ap value_or_zero value_at_infinity
 
 -- ---- the sum over all positions is that over the seen ones, where the others' terms are +0
@@ -186,6 +190,8 @@ module _ (row : List Float) (scores : T (is_score_row row)) (short : length row 
 -- no finite score is minus infinity
 not_hidden : (m : Float) → T (finite m) → eq m hidden ≡ false
 unfolding eq
+not_hidden nan p = elim p [ ]
+not_hidden (inf _) p = elim p [ ]
 not_hidden (fin s m e) p = refl
 
 hidden_is_hidden : eq hidden hidden ≡ true

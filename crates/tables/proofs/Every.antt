@@ -34,6 +34,9 @@ is_fraction (fin true n e) m c = false
 is_fraction (fin false n e) m c = eqb (n * up e * c) (m * down e)
 
 pub fraction→value : (x : Float) (m c : ℕ) → T (is_fraction x m c) → HasValue x false m c
+fraction→value nan m c t = elim t [ ]
+fraction→value (inf _) m c t = elim t [ ]
+fraction→value (fin true n e) m c t = elim t [ ]
 fraction→value (fin false n e) m c t = (refl, eqb→eq (n * up e * c) (m * down e) t)
 
 -- ---- the next odd numbers
