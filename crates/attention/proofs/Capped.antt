@@ -27,6 +27,8 @@ use Rattle.attention.proofs.Bounded.{MaskFits, admitted_finite}
 -- ---- a call with a cap
 
 above_plus : (x : Float) → T (finite x) → T (lt plus_zero x) → T (plus x)
+above_plus lib.Ieee.nan f h = elim f [ ]
+above_plus (lib.Ieee.inf _) f h = elim f [ ]
 above_plus (fin true m e) f h = absurd (unfold lt in h)
 above_plus (fin false m e) f h = tt
 

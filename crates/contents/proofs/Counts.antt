@@ -42,4 +42,4 @@ fault_above total (negsuc n) e = absurd (true≢false e)
 
 -- a count that was read from memory
 pub read_back : (z : ℤ) → mag z < 2 ^ 63 → to_z w64 (of_z w64 z) ≡ z
-read_back z h = to_z-of_z (sfits_of h)
+read_back z h = to_z-of_z {w = w64} (sfits_of h)
