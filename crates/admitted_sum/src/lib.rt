@@ -6,7 +6,7 @@ ghost use Rattle.softmax.specs.Lists.{element_of};
 ghost use Rattle.attention.specs.Admission.{repeated};
 ghost use Rattle.admitted_sum.specs.Sums.{MaskHas, admitted_by, RunEnd, added_row_of};
 
-use call::Mask_kind;
+use call::MaskKind;
 
 // Whether the mask admits the key whose cell stands at an index.
 fn admitted(kind: MaskKind, bytes: &[u8], cells: &[f32], at: usize) -> bool

@@ -7,7 +7,7 @@ ghost use Rattle.std.specs.Float.Ieee.{add};
 ghost use Rattle.attention.specs.Admission.{repeated};
 ghost use Rattle.row_steps.specs.Steps.{masked_row_by, MaskRowFits};
 
-use call::Mask_kind;
+use call::MaskKind;
 
 // Scores whose byte is 0 become minus infinity.
 fn hide_where(row: &mut [f32], bytes: &[u8])

@@ -4,7 +4,7 @@
 ghost use Rattle.std.specs.Prelude.{◌≡◌, ◌≤◌, true, length};
 ghost use Rattle.row_steps.specs.Steps.{shows_of, shown_where};
 
-use call::Score_mode;
+use call::ScoreMode;
 
 // Whether the score mode is one of those from low to high.
 pub fn shows(mode: ScoreMode, low: usize, high: usize) -> bool

@@ -9,7 +9,7 @@ ghost use Rattle.attention.specs.Elements.{key_head_of};
 ghost use Rattle.attention.specs.Formula.{effective_scale};
 
 use call::{Call, Scale, ScoreMode};
-use tables::Default_scale;
+use tables::DefaultScale;
 
 // The scale as given, or the default for the head size.
 pub fn effective_scale(call: Call) -> f32
