@@ -11,34 +11,34 @@ pub const MOST_LENGTH: usize = 2048;
 pub const MOST_SIZE: usize = 256;
 
 // How the call keeps keys and values: all in the call, past ones in a cache inside the call, or in an outside cache with live counts (ONNX: nonpad_kv_seqlen).
-#[derive(Drop)]
+#[derive(Clone, Copy)]
 pub enum Form {
     Plain,
     Cached,
     Counted,
 }
 
-#[derive(Drop)]
+#[derive(Clone, Copy)]
 pub enum MaskKind {
     NoMask,
     Boolean,
     FloatMask,
 }
 
-#[derive(Drop)]
+#[derive(Clone, Copy)]
 pub enum Scale {
     Absent,
     Given(f32),
 }
 
 // Which scores are shown (ONNX: qk_matmul_output_mode).
-#[derive(Drop)]
+#[derive(Clone, Copy)]
 pub enum ScoreMode {
     NoScores,
     Mode(usize),
 }
 
-#[derive(Drop)]
+#[derive(Clone, Copy)]
 pub struct Call {
     pub form: Form,
     pub mask: MaskKind,
@@ -73,7 +73,7 @@ pub struct Call {
 }
 
 // Why a call, an entry or a file is refused, with the place of the fault where one is searched for. The numbers and places are those of `specs/Answers.antt`.
-#[derive(Drop)]
+#[derive(Clone, Copy)]
 pub enum Refusal {
     // 1: a dimension, a total length or a size outside its limits
     Limits,
@@ -104,14 +104,14 @@ pub enum Refusal {
 }
 
 // What a call answers: done, with the total length and the number of fully masked rows (blind rows), or the first refusal that applies.
-#[derive(Drop)]
+#[derive(Clone, Copy)]
 pub enum Answer {
     Done { total: usize, masked: usize },
     NotDone(Refusal),
 }
 
 // Whether a call is accepted, or refused.
-#[derive(Drop)]
+#[derive(Clone, Copy)]
 pub enum Verdict {
     Accepted,
     Refused(Refusal),
