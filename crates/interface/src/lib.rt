@@ -2,7 +2,7 @@
 #![tactic(auto)]
 
 // An answer as numbers.
-#[derive(Drop)]
+#[derive(Clone, Copy)]
 pub struct Numbers {
     pub number: u32,
     pub tensor: u64,

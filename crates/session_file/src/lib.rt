@@ -3,7 +3,7 @@
 
 use call::Refusal;
 
-#[derive(Drop)]
+#[derive(Clone, Copy)]
 pub struct Sizes {
     // B
     pub batches: usize,
@@ -16,7 +16,7 @@ pub struct Sizes {
 }
 
 // What stands where the record of a position would begin: fewer than six bytes, which are a cut record or none; a whole head of wrong kind or length; a right head whose payload is cut; a whole record.
-#[derive(Drop)]
+#[derive(Clone, Copy)]
 pub enum Next {
     Ended,
     Wrong,
@@ -25,14 +25,14 @@ pub enum Next {
 }
 
 // What reading a file gives: its sizes and how many positions are whole in it.
-#[derive(Drop)]
+#[derive(Clone, Copy)]
 pub enum Reading {
     SessionRead { sizes: Sizes, positions: usize },
     NotRead(Refusal),
 }
 
 // What writing answers: how many positions stand whole in the file, and how many bytes of the buffer it has.
-#[derive(Drop)]
+#[derive(Clone, Copy)]
 pub enum Saving {
     Saved { positions: usize, used: usize },
     NotSaved(Refusal),

@@ -2,7 +2,7 @@
 #![tactic(auto)]
 
 // A reading as numbers.
-#[derive(Drop)]
+#[derive(Clone, Copy)]
 pub struct ReadingNumbers {
     pub number: u32,
     pub batches: u64,
@@ -15,7 +15,7 @@ pub struct ReadingNumbers {
 }
 
 // A saving as numbers.
-#[derive(Drop)]
+#[derive(Clone, Copy)]
 pub struct SavingNumbers {
     pub number: u32,
     pub positions: u64,

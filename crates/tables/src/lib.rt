@@ -9,14 +9,14 @@ ghost use Rattle.tables.specs.Power.{power_entry_of};
 ghost use Rattle.tables.specs.Scale.{default_scale_of};
 
 // The default scale of a head size from 1 to 256, and none of any other.
-#[derive(Drop)]
+#[derive(Clone, Copy)]
 pub enum DefaultScale {
     ScaleIs(f32),
     NoScale,
 }
 
 // The entry of the power table at an index below 256, and none at any other.
-#[derive(Drop)]
+#[derive(Clone, Copy)]
 pub enum PowerEntry {
     Entry(f32),
     NoEntry,
