@@ -32,7 +32,7 @@ fn exp_neg_by(powers: &[u32; 256], d: f32) -> Exponential
     if d < 0.0 {
         return Exponential::NoValue;
     }
-    let y = d * f32::from_bits(exponential::LOG2_E);
+    let y = d * f32::from_bits(exponential::LOG2E);
     if y >= 120.0 {
         return Exponential::Value(0.0);
     }

@@ -9,7 +9,7 @@ ghost use Rattle.exponential.specs.Blocks.{exponent_of, exponents_of, Exponents,
 fn exponent_of(d: f32) -> f32
     ensures { result ≡ exponent_of d }
 {
-    let y = d * f32::from_bits(exponential::LOG2_E);
+    let y = d * f32::from_bits(exponential::LOG2E);
     if 0.0 <= d {
         if y < 120.0 {
             return y;
