@@ -3,7 +3,7 @@ use mathlib.Core.Path.{◌≡◌, refl}
 use mathlib.Core.List.{[], ◌∷◌}
 use lib.Ieee.{nan}
 use Rattle.attention.specs.StepLent.{step_given, step_before, step_after}
-use Rattle.call.proofs.LentExamples.{lent, number}
+use Rattle.call.proofs.LentExamples.{lent, lent_mut, number}
 use Rattle.exponential.specs.ExpNeg.{one}
 use Rattle.call.specs.declared.Form.TheVariants.{Plain, Cached}
 use Rattle.call.specs.declared.MaskKind.TheVariants.{NoMask}
@@ -30,9 +30,9 @@ pub record StepExamplesHold : Type 0 where
   -- each lent tensor in its place, before the call as it came in and after it as it goes out
   pub given : step_given (lent (number 1) (number 11)) (lent (number 2) (number 12)) (lent (number 3) (number 13)) (lent (number 4) (number 14)) (lent (number 5) (number 15))
       ≡ step_inputs (number 1 ∷ []) (number 2 ∷ []) (number 3 ∷ []) (number 4 ∷ []) (number 5 ∷ [])
-  pub before : step_before (lent (number 1) (number 11)) (lent (number 2) (number 12)) (lent (number 3) (number 13)) (lent (number 4) (number 14))
+  pub before : step_before (lent_mut (number 1) (number 11)) (lent_mut (number 2) (number 12)) (lent_mut (number 3) (number 13)) (lent_mut (number 4) (number 14))
       ≡ step_outputs (number 1 ∷ []) (number 2 ∷ []) (number 3 ∷ []) (number 4 ∷ [])
-  pub after : step_after (lent (number 1) (number 11)) (lent (number 2) (number 12)) (lent (number 3) (number 13)) (lent (number 4) (number 14))
+  pub after : step_after (lent_mut (number 1) (number 11)) (lent_mut (number 2) (number 12)) (lent_mut (number 3) (number 13)) (lent_mut (number 4) (number 14))
       ≡ step_outputs (number 11 ∷ []) (number 12 ∷ []) (number 13 ∷ []) (number 14 ∷ [])
 
 pub step_examples_hold : StepExamplesHold

@@ -1,19 +1,26 @@
 -- The lent tensors as a contract names them. In a `requires` a lent slice is a reference; in an `ensures` it is a pair of references, as it came in and as it goes out. Definitions only.
 use Rattle.std.specs.Prelude.{List, ℕ, ℤ, Float}
-use Rattle.std.specs.Borrow.{Bor}
+use Rattle.std.specs.Borrow.{Bor, MutBor}
 use denote.Triple.Both.{Both}
 use Rattle.call.specs.Tensors.{Inputs, Outputs, inputs_of, outputs_of}
 
--- a slice in a `requires`, and in an `ensures`
+-- a slice that is read, in a `requires`, and in an `ensures`
 abbrev pub Slice : Type 0 → Type 0
 Slice A = Bor (List A)
 
 abbrev pub Lent : Type 0 → Type 0
 Lent A = Both (Slice A) (Slice A)
 
--- a number behind a reference, in an `ensures`
+-- a slice that is written, in a `requires`, and in an `ensures`
+abbrev pub SliceMut : Type 0 → Type 0
+SliceMut A = MutBor (List A)
+
+abbrev pub LentMut : Type 0 → Type 0
+LentMut A = Both (SliceMut A) (SliceMut A)
+
+-- a number that is written, in an `ensures`
 abbrev pub LentNumber : Type 0
-LentNumber = Both (Bor ℕ) (Bor ℕ)
+LentNumber = Both (MutBor ℕ) (MutBor ℕ)
 
 -- ---- in a `requires`
 
@@ -21,7 +28,7 @@ abbrev pub inputs_now : (query key value : Slice Float) → (bool_mask : Slice �
 inputs_now query key value bool_mask float_mask past_key past_value live =
     inputs_of query.now key.now value.now bool_mask.now float_mask.now past_key.now past_value.now live.now
 
-abbrev pub outputs_now : (output present_key present_value scores work : Slice Float) → Outputs
+abbrev pub outputs_now : (output present_key present_value scores work : SliceMut Float) → Outputs
 outputs_now output present_key present_value scores work = outputs_of output.now present_key.now present_value.now scores.now work.now
 
 -- ---- in an `ensures`: the tensors that are read, and those that are written, as they came in and as they go out
@@ -30,10 +37,10 @@ abbrev pub inputs_given : (query key value : Lent Float) → (bool_mask : Lent �
 inputs_given query key value bool_mask float_mask past_key past_value live =
     inputs_now query.entry key.entry value.entry bool_mask.entry float_mask.entry past_key.entry past_value.entry live.entry
 
-abbrev pub outputs_before : (output present_key present_value scores work : Lent Float) → Outputs
+abbrev pub outputs_before : (output present_key present_value scores work : LentMut Float) → Outputs
 outputs_before output present_key present_value scores work =
     outputs_now output.entry present_key.entry present_value.entry scores.entry work.entry
 
-abbrev pub outputs_after : (output present_key present_value scores work : Lent Float) → Outputs
+abbrev pub outputs_after : (output present_key present_value scores work : LentMut Float) → Outputs
 outputs_after output present_key present_value scores work =
     outputs_now output.exit present_key.exit present_value.exit scores.exit work.exit

@@ -1,6 +1,6 @@
 -- What the exported functions of saved sessions give back: numbers behind references, with the lent caches or the buffer. Definitions only.
 use Rattle.std.specs.Prelude.{List, ℕ, Float}
-use Rattle.call.specs.Lent.{Lent, LentNumber}
+use Rattle.call.specs.Lent.{LentMut, LentNumber}
 use Rattle.session_file.specs.declared.Sizes.{Sizes}
 use Rattle.session_file.specs.Reader.{Loaded}
 use Rattle.session_file.specs.Writer.{Written}
@@ -49,7 +49,7 @@ abbrev pub saved_with : (number positions used place : ℕ) → List ℕ → Sav
 saved_with number positions used place buffer = record { report = record { number = number; positions = positions; used = used; place = place }; buffer = buffer }
 
 -- the same, as an `ensures` names the numbers behind references and the lent buffer
-abbrev pub saved_by : ℕ → (positions used place : LentNumber) → (buffer : Lent ℕ) → SavedReport
+abbrev pub saved_by : ℕ → (positions used place : LentNumber) → (buffer : LentMut ℕ) → SavedReport
 saved_by number positions used place buffer = saved_with number positions.exit.now used.exit.now place.exit.now buffer.exit.now
 
 abbrev pub saved_report : Written → SavedReport
