@@ -1,4 +1,4 @@
--- What the lanes of a key are joined to, and scores in blocks. Assumes nothing.
+-- What the lanes of a key are joined to, and scores in blocks.
 use mathlib.Core.Path.{◌≡◌, refl, sym, ap, ◌∙◌}
 use mathlib.Core.Bool.{Bool, true, false, not}
 use mathlib.Core.List.{List}
