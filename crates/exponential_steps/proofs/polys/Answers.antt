@@ -17,12 +17,12 @@ as_long : (c : At-loop-i) → length c.loop-i.row ≡ length c.args.row.now
 as_long c = ap length c.loop-i.invariant.1 ∙ length_mapped_to each_of c.loop-i.i c.args.row.now
 
 -- there are as many whole parts
-wholes-long : (c : At-loop-i) → length c.args.wholes.now ≡ length c.args.row.now
-wholes-long c = ap length c.requires.wholes_value ∙ length_wholes c.args.row.now
+wholes_long : (c : At-loop-i) → length c.args.wholes.now ≡ length c.args.row.now
+wholes_long c = ap length c.requires.wholes_value ∙ length_wholes c.args.row.now
 
 -- the whole part at i is that of element i, which is as it was
-whole-at : (c : At-loop-i) → c.loop-i.i < length c.loop-i.row → (get_or c.args.wholes.now c.loop-i.i 0 ≡ whole_part_of (get_or c.loop-i.row c.loop-i.i nan)) × (get_or c.args.wholes.now c.loop-i.i 0 ≤ 32512)
-whole-at c h =
+whole_at : (c : At-loop-i) → c.loop-i.i < length c.loop-i.row → (get_or c.args.wholes.now c.loop-i.i 0 ≡ whole_part_of (get_or c.loop-i.row c.loop-i.i nan)) × (get_or c.args.wholes.now c.loop-i.i 0 ≤ 32512)
+whole_at c h =
     let row₀ = c.args.row.now in
     let i = c.loop-i.i in
     let l : i < length row₀ = subst (λ (n : ℕ). i < n) (as_long c) h in
@@ -31,10 +31,10 @@ whole-at c h =
     (e ∙ ap whole_part_of (sym same), subst (λ (n : ℕ). n ≤ 32512) (sym e) (whole_at_most (get_or row₀ i nan) (c.requires.exponents i l)))
 
 pub bounds-wholes-i : goal.bounds-wholes-i
-bounds-wholes-i c = let a = c in omega (arith, as_long (goal.at.bounds-wholes-i c).At-loop-i, wholes-long (goal.at.bounds-wholes-i c).At-loop-i)
+bounds-wholes-i c = let a = c in omega (arith, as_long (goal.at.bounds-wholes-i c).At-loop-i, wholes_long (goal.at.bounds-wholes-i c).At-loop-i)
 
 pub poly_at-requires : goal.poly_at-requires
-poly_at-requires c = whole-at (goal.at.poly_at-requires c).At-loop-i (omega arith)
+poly_at-requires c = let w = whole_at (goal.at.poly_at-requires c).At-loop-i (omega arith) in record { n_value = w.0; n_bound = w.1 }
 
 pub loop-i-smaller : goal.loop-i-smaller
 loop-i-smaller c = let n = as_long (goal.at.loop-i-smaller c).At-loop-i in omega arith
