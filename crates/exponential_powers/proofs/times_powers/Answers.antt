@@ -56,5 +56,5 @@ returns c =
     let a = c in
     let s = a.args in
     c.halve.ensures
-    ∙ ap (zip_with halved_by s.wholes.now) (all_entries a (omega arith))
+    ∙ ap (zip_with halved_by s.wholes.now) (all_entries (goal.at.returns c).At-loop-i (omega arith))
     ∙ both_products s.wholes.now s.row.now
