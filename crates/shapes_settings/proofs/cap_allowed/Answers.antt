@@ -4,20 +4,16 @@ use mathlib.Core.Bool.{Bool, true, false, ◌&&◌}
 use lib.IntN.{pos}
 use lib.Ieee.{Float, fin, le, of_bits}
 use Rattle.call.specs.Limits.{cap_allowed}
-use Rattle.shapes_settings.proofs.cap_allowed.Statement.{statement}
-use Rattle.shapes_settings.proofs.cap_allowed.Tie as tie
+use Rattle.shapes_settings.proofs.cap_allowed.Goals as goal
 
 -- by what the test of the lower bound gives
 by-test : (z : Float) (t : Bool) → le (fin false 0 (pos 0)) z ≡ t → (t && le z (fin false 1 (pos 16))) ≡ cap_allowed z
 by-test z t e = ap (λ (b : Bool). b && le z (fin false 1 (pos 16))) (sym e)
 
-returns : tie.Need-returns
+pub returns-then-cap : goal.returns-then-cap
 unfolding of_bits
-returns c = by-test c.before.args.cap true c.if1.true
+returns-then-cap c = by-test c.args.cap true c.if-cap.true
 
-returns-2 : tie.Need-returns-2
+pub returns : goal.returns
 unfolding of_bits
-returns-2 c = by-test c.before.args.cap false c.if1.false
-
-pub cap-allowed-spec : {M : Type 1} → statement M
-cap-allowed-spec = tie.close (tie.spec returns returns-2)
+returns c = by-test c.args.cap false c.if-cap.false
