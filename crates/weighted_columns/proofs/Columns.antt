@@ -1,4 +1,4 @@
--- Some columns of the output row, as `&values[c..]` and a part of the row lend them: what the weighted sum makes of them is what it makes of the whole row, in those columns. Assumes nothing.
+-- Some columns of the output row, as `&values[c..]` and a part of the row lend them: what the weighted sum makes of them is what it makes of the whole row, in those columns.
 use mathlib.Core.Path.{◌≡◌, refl, sym, ap, ◌∙◌}
 use mathlib.Core.List.{List}
 use Prim.Native.Nat.{ℕ, ◌+◌, ◌*◌, ◌<◌}
