@@ -1,0 +1,46 @@
+-- `session_faults::position_fault` meets its contract: the part that is looked at is the payload. Assumes nothing.
+use mathlib.Core.Path.{ap, ◌∙◌}
+use Prim.Native.Nat.{ℕ, ◌+◌, ◌*◌, ◌-◌}
+use native.Mathlib.Omega.{arith}
+use borrow.Author.Rules.{rules}
+use lib.Dec.{ltb}
+use Rattle.bool_laws.specs.Counts.{count_where}
+use Rattle.tensor_laws.proofs.Parts.{length_part}
+use Rattle.session_file.specs.Sizes.{rows_of}
+use Rattle.session_file.specs.Reader.{payload_fault, position_fault}
+use Rattle.session_file.proofs.Limits.{sizes→facts}
+use Rattle.session_reader.proofs.Payloads.{part_number}
+use Rattle.session_faults.proofs.position_fault.Goals as goal
+
+-- OLD GOAL GONE: slice-bounds-payload-faults-start
+-- part-payload-faults-start : tie.Need-slice-bounds-payload-faults-start
+-- part-payload-faults-start c = search rules
+
+-- OLD GOAL GONE: slice-bounds-payload-faults-end
+-- part-payload-faults-end : tie.Need-slice-bounds-payload-faults-end
+-- part-payload-faults-end c = search rules
+
+pub payload_faults-requires : goal.payload_faults-requires
+payload_faults-requires c =
+    let a = c in
+    let s = a in
+    let from = a.record_start-from.result + 6 in
+    let f = sizes→facts s.args.sizes s.requires.sizes_value in
+    let e = a.record_start-from.ensures in
+    let l = a.payload_length.ensures in
+    omega (arith, f.payload, s.requires, length_part from (from + a.payload_length.result - from) s.args.file.now (omega (arith, s.requires)))
+
+pub returns : goal.returns
+unfolding position_fault
+returns c =
+    let a = c in
+    let s = a in
+    let z = s.args.sizes in
+    let from = a.record_start-from.result + 6 in
+    let count = rows_of z * (z.size + z.vsize) in
+    let e = a.record_start-from.ensures in
+    let l = a.payload_length.ensures in
+    ap (ltb 0)
+    (c.payload_faults.ensures
+    ∙ part_number from (from + a.payload_length.result - from) count s.args.file.now (omega (arith, s.requires)) (omega arith)
+    ∙ ap (λ (n : ℕ). count_where count (payload_fault s.args.file.now (n + 6))) e)
