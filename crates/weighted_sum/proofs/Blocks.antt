@@ -1,4 +1,4 @@
--- Positions in blocks: the weighted values of n positions more, as the parts of the weights and of the values that start with position j lend them. Assumes nothing.
+-- Positions in blocks: the weighted values of n positions more, as the parts of the weights and of the values that start with position j lend them.
 use mathlib.Core.Path.{◌≡◌, refl, sym, ap, ◌∙◌}
 use mathlib.Core.List.{List}
 use Prim.Native.Nat.{ℕ, zero, suc, ◌+◌, ◌*◌, ◌<◌}
