@@ -1,4 +1,4 @@
--- The weighted sum over seen positions: in two runs one after the other, from rows that agree, and from +0 as the row formula has it. Assumes nothing.
+-- The weighted sum over seen positions: in two runs one after the other, from rows that agree, and from +0 as the row formula has it.
 use mathlib.Core.Path.{◌≡◌, refl, sym, ap, ◌∙◌}
 use mathlib.Core.Bool.{Bool, true, false}
 use mathlib.Core.List.{List}

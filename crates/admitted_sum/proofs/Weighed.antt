@@ -1,4 +1,4 @@
--- The weighted sum over the seen positions, one run at a time: a run of seen positions is accumulated, and the position that stops it adds nothing. Assumes nothing.
+-- The weighted sum over the seen positions, one run at a time: a run of seen positions is accumulated, and the position that stops it adds nothing.
 use mathlib.Core.Path.{◌≡◌, sym, ap, ◌∙◌}
 use mathlib.Core.Bool.{Bool, true, false, not}
 use mathlib.Core.List.{List}

@@ -1,0 +1,59 @@
+use mathlib.Core.Path.{◌≡◌, sym, ap, ◌∙◌}
+use mathlib.Core.Bool.{Bool}
+use mathlib.Core.List.{List}
+use Prim.Native.Nat.{ℕ, ◌+◌, ◌*◌, ◌-◌, ◌<◌, ◌≤◌, min}
+use native.Mathlib.Nat.{add-mul, zero-min, min-eq_left}
+use native.Mathlib.Omega.{arith}
+use borrow.Rule.Slice.PartMut.{mid_len}
+use lib.ListN.{length, take, drop}
+use lib.Ieee.{Float}
+use Rattle.softmax.specs.Lists.{weighted_rows_of}
+use Rattle.admitted_sum.specs.Sums.{RunEnd}
+use Rattle.tensor_laws.proofs.Tails.{part_of, length_part}
+use Rattle.admitted_sum.proofs.Weighed.{admits_at, run_from, weighed_to, weighed_none, length_weighed, weighed_run_lem, weighed_stop}
+use Rattle.admitted_sum.proofs.weigh_admitted.Invariants.{sees_of}
+use Rattle.admitted_sum.proofs.weigh_admitted.Goals as goal
+use Rattle.admitted_sum.proofs.weigh_admitted.Goals.{After-run_end}
+
+pub loop-j-init : goal.loop-j-init
+loop-j-init c =
+    let s = c.args in
+    let sees = sees_of s.kind s.bytes.now s.cells.now s.at s.width s.from in
+    (omega arith, sym (ap (weighed_to sees s.weights.now s.values.now s.stride s.out.now) (zero-min (length s.weights.now)) ∙ weighed_none sees s.weights.now s.values.now s.stride s.out.now))
+
+-- the end of the run, counted from the first position given
+abbrev end_of : After-run_end → ℕ
+end_of c = c.run_end.result - c.args.from
+
+-- it is the end of the run that starts at j
+ended : (c : After-run_end) → let s = c.args in RunEnd (sees_of s.kind s.bytes.now s.cells.now s.at s.width s.from) c.loop-j.j (length s.weights.now) (end_of c)
+ended c =
+    let s = c.args in
+    run_from (admits_at s.kind s.bytes.now s.cells.now s.at s.width) s.from c.loop-j.j (length s.weights.now) c.run_end.result c.run_end.ensures
+
+pub weighted_rows-requires : goal.weighted_rows-requires
+weighted_rows-requires c k l =
+    let a = (goal.at.weighted_rows-requires c).After-run_end in
+    let s = c.args in
+    let j = c.loop-j.j in
+    let n = c.loop-j.auto.out in
+    let e = ended a in
+    let g = e.inside in
+    let h = c.requires.by_index (j + k) (omega (arith, l, mid_len j (end_of a) s.weights.now g)) in
+    omega (arith, add-mul j k s.stride, length_part (j * s.stride) s.values.now)
+
+pub loop-j-preserved : goal.loop-j-preserved
+loop-j-preserved c =
+    let a = (goal.at.loop-j-preserved c).After-run_end in
+    let s = c.args in
+    let j = c.loop-j.j in
+    let e = ended a in
+    let g = e.inside in
+    let n = length s.weights.now in
+    let sees = sees_of s.kind s.bytes.now s.cells.now s.at s.width s.from in (
+      omega arith,
+      c.weighted_rows.ensures
+          ∙ ap (weighted_rows_of (take (end_of a - j) (drop j s.weights.now)) (part_of (j * s.stride) s.values.now) s.stride) (c.loop-j.invariant.1 ∙ ap (weighed_to sees s.weights.now s.values.now s.stride s.out.now) (min-eq_left {n = j} {m = n} (omega arith)))
+          ∙ weighed_run_lem sees s.weights.now s.values.now s.stride s.out.now j (end_of a) e.start e.inside e.seen
+          ∙ weighed_stop sees s.weights.now s.values.now s.stride s.out.now (end_of a) n e.inside e.stop,
+    )
