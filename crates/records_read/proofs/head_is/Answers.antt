@@ -9,11 +9,10 @@ use Rattle.records_read.proofs.head_is.Goals as goal
 
 pub returns-then-u32_at-long : goal.returns-then-u32_at-long
 returns-then-u32_at-long c =
-    let then = c in
-    let s = then.args in
+    let s = c.args in
     let bytes = s.bytes.now in
     ap (λ (n : ℕ). eqb n s.kind) c.u16_at.ensures
-    ∙ sym (ap (λ (b : Bool). b && eqb (u16_at bytes (s.at + 4)) s.kind) (eq-eqb (u32_at bytes s.at) s.long (sym then.u32_at.ensures ∙ then.if-u32_at-long.true)))
+    ∙ sym (ap (λ (b : Bool). b && eqb (u16_at bytes (s.at + 4)) s.kind) (eq-eqb (u32_at bytes s.at) s.long (sym c.u32_at.ensures ∙ c.if-u32_at-long.true)))
 
 pub returns : goal.returns
 returns c =

@@ -24,10 +24,8 @@ u32_at-requires c = let n = as_long (goal.at.u32_at-requires c).At-loop-i in ome
 
 pub float_from_bits-row : goal.float_from_bits-row
 float_from_bits-row c =
-    let a = c in
     let n = as_long (goal.at.float_from_bits-row c).At-loop-i in
-    let start = a in
-    rw c.u32_at.ensures (start.requires.by_index a.loop-i.i (omega arith))
+    rw c.u32_at.ensures (c.requires.by_index c.loop-i.i (omega arith))
 
 pub offset_bounds-row-i : goal.offset_bounds-row-i
 offset_bounds-row-i c = let n = as_long (goal.at.offset_bounds-row-i c).At-loop-i in omega arith
@@ -41,14 +39,13 @@ loop-i-smaller c = let n = as_long (goal.at.loop-i-smaller c).At-loop-i in omega
 pub loop-i-preserved : goal.loop-i-preserved
 unfolding f32_at
 loop-i-preserved c =
-    let a = c in
-    let s = a.args in
-    let i = a.loop-i.i in
+    let s = c.args in
+    let i = c.loop-i.i in
     let n = as_long (goal.at.loop-i-preserved c).At-loop-i in
     let read : of_bits binary32 c.u32_at.result ≡ f32_at s.bytes.now (0 + i * 4) =
     ap (of_bits binary32) (c.u32_at.ensures ∙ ap (u32_at s.bytes.now) (sym (zero-add (i * 4))))
     in
-    (omega arith, (λ j. set (a.loop-i.invariant.1 j) i (read j)) ∙ indexed_next (each_of s.bytes.now) nan i s.row.now (omega arith))
+    (omega arith, (λ j. set (c.loop-i.invariant.1 j) i (read j)) ∙ indexed_next (each_of s.bytes.now) nan i s.row.now (omega arith))
 
 pub shape_of-row : goal.shape_of-row
 shape_of-row c = as_long (goal.at.shape_of-row c).At-loop-i
@@ -56,7 +53,6 @@ shape_of-row c = as_long (goal.at.shape_of-row c).At-loop-i
 pub returns : goal.returns
 unfolding row_at
 returns c =
-    let a = c in
-    let s = a.args in
+    let s = c.args in
     let n = as_long (goal.at.returns c).At-loop-i in
-    a.loop-i.invariant.1 ∙ indexed_all (each_of s.bytes.now) nan a.loop-i.i s.row.now (omega arith)
+    c.loop-i.invariant.1 ∙ indexed_all (each_of s.bytes.now) nan c.loop-i.i s.row.now (omega arith)

@@ -10,10 +10,7 @@ use Rattle.records_write.proofs.put_head.Goals as goal
 
 pub returns : goal.returns
 returns c =
-    let second = c in
-    let first = second in
-    let start = first in
-    let s = start.args in
-    second.put_u16.ensures
-    ∙ ap (λ (r : List ℕ). written_at r (s.at + 4) (u16_bytes s.kind)) first.put_u32.ensures
-    ∙ written_next s.bytes.now s.at (u32_bytes s.long) (u16_bytes s.kind) (omega (arith, start.requires))
+    let s = c.args in
+    c.put_u16.ensures
+    ∙ ap (λ (r : List ℕ). written_at r (s.at + 4) (u16_bytes s.kind)) c.put_u32.ensures
+    ∙ written_next s.bytes.now s.at (u32_bytes s.long) (u16_bytes s.kind) (omega (arith, c.requires))

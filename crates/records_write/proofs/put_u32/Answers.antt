@@ -10,12 +10,9 @@ use Rattle.records_write.proofs.put_u32.Goals as goal
 
 pub returns : goal.returns
 returns c =
-    let second = c in
-    let first = second in
-    let start = first in
-    let s = start.args in
+    let s = c.args in
     let low = u16_bytes (s.x % 65536) in
     let high = u16_bytes (s.x / 65536) in
-    second.put_u16-2.ensures
-    ∙ ap (λ (r : List ℕ). written_at r (s.at + 2) high) first.put_u16.ensures
-    ∙ written_next s.bytes.now s.at low high (omega (arith, start.requires))
+    c.put_u16-2.ensures
+    ∙ ap (λ (r : List ℕ). written_at r (s.at + 2) high) c.put_u16.ensures
+    ∙ written_next s.bytes.now s.at low high (omega (arith, c.requires))

@@ -17,16 +17,14 @@ loop-i-init c = (omega arith, refl)
 -- the bytes are as many as they were
 as_long : (c : At-loop-i) → length c.loop-i.bytes ≡ length c.args.bytes.now
 as_long c =
-    let start = c in
-    let s = start.args in
+    let s = c.args in
     let i = c.loop-i.i in
     ap length c.loop-i.invariant.1
-    ∙ length_row_to s.row.now i s.bytes.now c.loop-i.invariant.0 (omega (arith, start.requires.bytes_len))
+    ∙ length_row_to s.row.now i s.bytes.now c.loop-i.invariant.0 (omega (arith, c.requires.bytes_len))
 
 pub float_to_bits-row : goal.float_to_bits-row
 float_to_bits-row c =
-    let a = c in
-    a.requires.by_index a.loop-i.i (omega arith)
+    c.requires.by_index c.loop-i.i (omega arith)
 
 pub put_u32-requires : goal.put_u32-requires
 put_u32-requires c = let n = as_long (goal.at.put_u32-requires c).At-loop-i in omega arith
@@ -34,16 +32,13 @@ put_u32-requires c = let n = as_long (goal.at.put_u32-requires c).At-loop-i in o
 pub loop-i-preserved : goal.loop-i-preserved
 unfolding f32_bytes
 loop-i-preserved c =
-    let call = c in
-    let a = call in
-    let start = a in
-    let s = start.args in
-    let i = a.loop-i.i in
+    let s = c.args in
+    let i = c.loop-i.i in
     let e = f32_bytes (get_or s.row.now i nan) in (
       omega arith,
-      call.put_u32.ensures
-          ∙ ap (λ (r : List ℕ). written_at r (i * 4) e) a.loop-i.invariant.1
-          ∙ row_to_next s.row.now i s.bytes.now (omega arith) (omega (arith, start.requires.bytes_len)),
+      c.put_u32.ensures
+          ∙ ap (λ (r : List ℕ). written_at r (i * 4) e) c.loop-i.invariant.1
+          ∙ row_to_next s.row.now i s.bytes.now (omega arith) (omega (arith, c.requires.bytes_len)),
     )
 
 pub shape_of-bytes : goal.shape_of-bytes
@@ -51,7 +46,5 @@ shape_of-bytes c = as_long (goal.at.shape_of-bytes c).At-loop-i
 
 pub returns : goal.returns
 returns c =
-    let a = c in
-    let start = a in
-    let s = start.args in
-    a.loop-i.invariant.1 ∙ row_to_all s.row.now a.loop-i.i s.bytes.now (omega arith) (omega (arith, start.requires.bytes_len))
+    let s = c.args in
+    c.loop-i.invariant.1 ∙ row_to_all s.row.now c.loop-i.i s.bytes.now (omega arith) (omega (arith, c.requires.bytes_len))

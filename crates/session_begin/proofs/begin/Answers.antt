@@ -16,15 +16,16 @@ held : (c : Then-sizes_hold) → sizes_hold c.args.sizes ≡ true
 held c = cc (c.sizes_hold.ensures, c.if-sizes_hold.true)
 
 pub write_sizes-requires : goal.write_sizes-requires
-write_sizes-requires c = (held (goal.at.write_sizes-requires c).Then-sizes_hold, c.if-buffer-ge14.true)
+write_sizes-requires c = record {
+    sizes_value = held (goal.at.write_sizes-requires c).Then-sizes_hold;
+    in_bounds = c.if-buffer-ge14.true;
+}
 
 pub returns-then-buffer-ge14 : goal.returns-then-buffer-ge14
 unfolding begin_of
 returns-then-buffer-ge14 c =
-    let w = c in
-    let t = w in
-    let s = t.args in
-    rw (held (goal.at.returns-then-buffer-ge14 c).Then-sizes_hold, le-leb 14 (length s.buffer.now) t.if-buffer-ge14.true) (ap (λ (b : List ℕ). written (Saved 0 14) b) w.write_sizes.ensures)
+    let s = c.args in
+    rw (held (goal.at.returns-then-buffer-ge14 c).Then-sizes_hold, le-leb 14 (length s.buffer.now) c.if-buffer-ge14.true) (ap (λ (b : List ℕ). written (Saved 0 14) b) c.write_sizes.ensures)
 
 pub returns-then-sizes_hold : goal.returns-then-sizes_hold
 unfolding begin_of

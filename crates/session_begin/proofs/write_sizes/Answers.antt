@@ -23,10 +23,4 @@ overflow_cast-sizes-4 c = omega (arith, (facts (goal.at.overflow_cast-sizes-4 c)
 
 pub returns : goal.returns
 returns c =
-    let w₄ = c in
-    let w₃ = w₄ in
-    let w₂ = w₃ in
-    let w₁ = w₂ in
-    let w₀ = w₁ in
-    let start = w₀ in
-    sizes_written start.args.sizes start.args.buffer.now w₀.put_head.new.0 w₁.put_u16.new.0 w₂.put_u16-2.new.0 w₃.put_u16-3.new.0 w₄.put_u16-4.new.0 start.requires.in_bounds w₀.put_head.ensures w₁.put_u16.ensures w₂.put_u16-2.ensures w₃.put_u16-3.ensures w₄.put_u16-4.ensures
+    sizes_written c.args.sizes c.args.buffer.now c.put_head.new.bytes c.put_u16.new.bytes c.put_u16-2.new.bytes c.put_u16-3.new.bytes c.put_u16-4.new.bytes c.requires.in_bounds c.put_head.ensures c.put_u16.ensures c.put_u16-2.ensures c.put_u16-3.ensures c.put_u16-4.ensures

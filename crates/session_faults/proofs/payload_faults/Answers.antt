@@ -30,22 +30,19 @@ added c =
 -- at most 1
 at_most_one : (c : After-pattern_fault-faults) → c.pattern_fault-faults.result ≤ 1
 at_most_one c =
-    let l = c in
-    omega (arith, added c, tally_le (payload_fault l.args.payload.now 0 l.loop-i.i))
+    omega (arith, added c, tally_le (payload_fault c.args.payload.now 0 c.loop-i.i))
 
 pub overflow_add-faults : goal.overflow_add-faults
 overflow_add-faults c = let n = at_most_one (goal.at.overflow_add-faults c).After-pattern_fault-faults in omega arith
 
 pub loop-i-preserved : goal.loop-i-preserved
 loop-i-preserved c =
-    let l = c in
-    let test = payload_fault l.args.payload.now 0 in
+    let test = payload_fault c.args.payload.now 0 in
     let n = at_most_one (goal.at.loop-i-preserved c).After-pattern_fault-faults in
-    (omega arith, omega arith, (λ j. l.loop-i.invariant.2 j + added c j) ∙ sym (count_next l.loop-i.i test))
+    (omega arith, omega arith, (λ j. c.loop-i.invariant.2 j + added c j) ∙ sym (count_next c.loop-i.i test))
 
 pub returns : goal.returns
 returns c =
-    let l = c in
-    let payload = l.args.payload.now in
-    let all : l.loop-i.i ≡ length payload / 4 = omega arith in
-    l.loop-i.invariant.2 ∙ ap (λ (n : ℕ). count_where n (payload_fault payload 0)) all
+    let payload = c.args.payload.now in
+    let all : c.loop-i.i ≡ length payload / 4 = omega arith in
+    c.loop-i.invariant.2 ∙ ap (λ (n : ℕ). count_where n (payload_fault payload 0)) all

@@ -22,25 +22,21 @@ use Rattle.session_faults.proofs.position_fault.Goals as goal
 
 pub payload_faults-requires : goal.payload_faults-requires
 payload_faults-requires c =
-    let a = c in
-    let s = a in
-    let from = a.record_start-from.result + 6 in
-    let f = sizes→facts s.args.sizes s.requires.sizes_value in
-    let e = a.record_start-from.ensures in
-    let l = a.payload_length.ensures in
-    omega (arith, f.payload, s.requires, length_part from (from + a.payload_length.result - from) s.args.file.now (omega (arith, s.requires)))
+    let from = c.record_start-from.result + 6 in
+    let f = sizes→facts c.args.sizes c.requires.sizes_value in
+    let e = c.record_start-from.ensures in
+    let l = c.payload_length.ensures in
+    omega (arith, f.payload, c.requires, length_part from (from + c.payload_length.result - from) c.args.file.now (omega (arith, c.requires)))
 
 pub returns : goal.returns
 unfolding position_fault
 returns c =
-    let a = c in
-    let s = a in
-    let z = s.args.sizes in
-    let from = a.record_start-from.result + 6 in
+    let z = c.args.sizes in
+    let from = c.record_start-from.result + 6 in
     let count = rows_of z * (z.size + z.vsize) in
-    let e = a.record_start-from.ensures in
-    let l = a.payload_length.ensures in
+    let e = c.record_start-from.ensures in
+    let l = c.payload_length.ensures in
     ap (ltb 0)
     (c.payload_faults.ensures
-    ∙ part_number from (from + a.payload_length.result - from) count s.args.file.now (omega (arith, s.requires)) (omega arith)
-    ∙ ap (λ (n : ℕ). count_where count (payload_fault s.args.file.now (n + 6))) e)
+    ∙ part_number from (from + c.payload_length.result - from) count c.args.file.now (omega (arith, c.requires)) (omega arith)
+    ∙ ap (λ (n : ℕ). count_where count (payload_fault c.args.file.now (n + 6))) e)

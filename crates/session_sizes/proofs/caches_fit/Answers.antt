@@ -8,22 +8,20 @@ use Rattle.session_reader.proofs.Products.{rows_most, cache_most}
 use Rattle.session_sizes.proofs.caches_fit.Goals as goal
 
 pub overflow_mul-rows : goal.overflow_mul-rows
-overflow_mul-rows c = let s = c in let f = sizes→facts s.args.sizes s.requires.sizes_value in omega arith
+overflow_mul-rows c = let f = sizes→facts c.args.sizes c.requires.sizes_value in omega arith
 
 pub overflow_mul-rows-2 : goal.overflow_mul-rows-2
-overflow_mul-rows-2 c = let s = c in omega (arith, rows_most s.args.sizes s.args.n s.requires.sizes_value s.requires.n_bound)
+overflow_mul-rows-2 c = omega (arith, rows_most c.args.sizes c.args.n c.requires.sizes_value c.requires.n_bound)
 
 pub overflow_mul-rows-3 : goal.overflow_mul-rows-3
 overflow_mul-rows-3 c =
-    let s = c in
-    let f = sizes→facts s.args.sizes s.requires.sizes_value in
-    omega (arith, cache_most s.args.sizes s.args.n s.args.sizes.size s.requires.sizes_value s.requires.n_bound f.size.1)
+    let f = sizes→facts c.args.sizes c.requires.sizes_value in
+    omega (arith, cache_most c.args.sizes c.args.n c.args.sizes.size c.requires.sizes_value c.requires.n_bound f.size.1)
 
 pub overflow_mul-result : goal.overflow_mul-result
 overflow_mul-result c =
-    let s = c in
-    let f = sizes→facts s.args.sizes s.requires.sizes_value in
-    omega (arith, cache_most s.args.sizes s.args.n s.args.sizes.vsize s.requires.sizes_value s.requires.n_bound f.vsize.1)
+    let f = sizes→facts c.args.sizes c.requires.sizes_value in
+    omega (arith, cache_most c.args.sizes c.args.n c.args.sizes.vsize c.requires.sizes_value c.requires.n_bound f.vsize.1)
 
 pub returns-then-keys-rows : goal.returns-then-keys-rows
 returns-then-keys-rows c = let a = c.args in rw (eq-eqb a.keys (rows_of a.sizes * a.n * a.sizes.size) (omega (arith, c.if-keys-rows.true)))

@@ -7,10 +7,10 @@ pub overflow_mul-result : goal.overflow_mul-result
 overflow_mul-result c = let f = sizes→facts c.args.sizes c.requires in omega arith
 
 pub overflow_add-result : goal.overflow_add-result
-overflow_add-result c = let s = c in let f = sizes→facts s.args.sizes s.requires in omega arith
+overflow_add-result c = let f = sizes→facts c.args.sizes c.requires in omega arith
 
 pub overflow_mul-result-2 : goal.overflow_mul-result-2
-overflow_mul-result-2 c = let s = c in let f = sizes→facts s.args.sizes s.requires in omega arith
+overflow_mul-result-2 c = let f = sizes→facts c.args.sizes c.requires in omega arith
 
 pub overflow_mul-result-3 : goal.overflow_mul-result-3
-overflow_mul-result-3 c = let s = c in let f = sizes→facts s.args.sizes s.requires in omega arith
+overflow_mul-result-3 c = let f = sizes→facts c.args.sizes c.requires in omega arith

@@ -7,21 +7,18 @@ use Rattle.session_sizes.proofs.record_start.Goals as goal
 
 pub overflow_add-result : goal.overflow_add-result
 overflow_add-result c =
-    let s = c in
-    let f = sizes→facts s.args.sizes s.requires.sizes_value in
+    let f = sizes→facts c.args.sizes c.requires.sizes_value in
     omega (arith, f.payload, c.payload_length.ensures)
 
 pub overflow_mul-result : goal.overflow_mul-result
 overflow_mul-result c =
-    let s = c in
-    let m = record_start_most s.args.sizes s.args.p s.requires.sizes_value s.requires.p_bound in
-    omega (arith, ap (λ (n : ℕ). s.args.p * (6 + n)) c.payload_length.ensures)
+    let m = record_start_most c.args.sizes c.args.p c.requires.sizes_value c.requires.p_bound in
+    omega (arith, ap (λ (n : ℕ). c.args.p * (6 + n)) c.payload_length.ensures)
 
 pub overflow_add-result-2 : goal.overflow_add-result-2
 overflow_add-result-2 c =
-    let s = c in
-    let m = record_start_most s.args.sizes s.args.p s.requires.sizes_value s.requires.p_bound in
-    omega (arith, ap (λ (n : ℕ). s.args.p * (6 + n)) c.payload_length.ensures)
+    let m = record_start_most c.args.sizes c.args.p c.requires.sizes_value c.requires.p_bound in
+    omega (arith, ap (λ (n : ℕ). c.args.p * (6 + n)) c.payload_length.ensures)
 
 pub returns : goal.returns
 returns c = ap (λ (n : ℕ). 14 + c.args.p * (6 + n)) c.payload_length.ensures

@@ -8,32 +8,26 @@ use Rattle.session_sizes.proofs.sizes_hold.Goals as goal
 pub returns-then-is_within-3 : goal.returns-then-is_within-3
 unfolding sizes_hold
 returns-then-is_within-3 c =
-    let c3 = c in
-    let c2 = c3 in
-    let c1 = c2 in
-    let z = c1.args.sizes in
-    let b : within 1 8 z.batches ≡ true = sym c1.is_within.ensures ∙ c1.if-is_within.true in
-    let h : within 1 32 z.kvheads ≡ true = sym c2.is_within-then-is_within.ensures ∙ c2.if-is_within-2.true in
-    let d : within 1 256 z.size ≡ true = sym c3.is_within-then-is_within-2.ensures ∙ c3.if-is_within-3.true in
+    let z = c.args.sizes in
+    let b : within 1 8 z.batches ≡ true = sym c.is_within.ensures ∙ c.if-is_within.true in
+    let h : within 1 32 z.kvheads ≡ true = sym c.is_within-then-is_within.ensures ∙ c.if-is_within-2.true in
+    let d : within 1 256 z.size ≡ true = sym c.is_within-then-is_within-2.ensures ∙ c.if-is_within-3.true in
     c.is_within-then-is_within-3.ensures ∙ rw (b, h, d)
 
 pub returns-else-is_within-3 : goal.returns-else-is_within-3
 unfolding sizes_hold
 returns-else-is_within-3 c =
-    let c2 = c in
-    let c1 = c2 in
-    let z = c1.args.sizes in
-    let b : within 1 8 z.batches ≡ true = sym c1.is_within.ensures ∙ c1.if-is_within.true in
-    let h : within 1 32 z.kvheads ≡ true = sym c2.is_within-then-is_within.ensures ∙ c2.if-is_within-2.true in
+    let z = c.args.sizes in
+    let b : within 1 8 z.batches ≡ true = sym c.is_within.ensures ∙ c.if-is_within.true in
+    let h : within 1 32 z.kvheads ≡ true = sym c.is_within-then-is_within.ensures ∙ c.if-is_within-2.true in
     let d : within 1 256 z.size ≡ false = sym c.is_within-then-is_within-2.ensures ∙ c.if-is_within-3.false in
     rw (b, h, d)
 
 pub returns-else-is_within-2 : goal.returns-else-is_within-2
 unfolding sizes_hold
 returns-else-is_within-2 c =
-    let c1 = c in
-    let z = c1.args.sizes in
-    let b : within 1 8 z.batches ≡ true = sym c1.is_within.ensures ∙ c1.if-is_within.true in
+    let z = c.args.sizes in
+    let b : within 1 8 z.batches ≡ true = sym c.is_within.ensures ∙ c.if-is_within.true in
     let h : within 1 32 z.kvheads ≡ false = sym c.is_within-then-is_within.ensures ∙ c.if-is_within-2.false in
     rw (b, h)
 
