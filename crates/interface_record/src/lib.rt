@@ -7,6 +7,7 @@ ghost use Rattle.interface.specs.Record.{number_at, form_of, mask_kind_of, scale
 use call::{Call, Form, MaskKind, Scale, ScoreMode};
 
 // A number of the record, which is 0 in a record that has not 18 numbers.
+#[tactic(auto, unfolding(interface::specs::Record::number_at))]
 fn number(numbers: &[u64], at: usize) -> usize
     ensures { result ≡ number_at numbers.now at }
 {
@@ -20,6 +21,7 @@ fn number(numbers: &[u64], at: usize) -> usize
 }
 
 // The form that a code names. A past is allowed under a code that names none.
+#[tactic(auto, unfolding(interface::specs::Record::form_of))]
 fn decode_form(code: usize) -> Form
     ensures { result ≡ form_of code }
 {
@@ -32,6 +34,7 @@ fn decode_form(code: usize) -> Form
     Form::Cached
 }
 
+#[tactic(auto, unfolding(interface::specs::Record::mask_kind_of))]
 fn decode_mask(code: usize) -> MaskKind
     ensures { result ≡ mask_kind_of code }
 {
@@ -44,6 +47,7 @@ fn decode_mask(code: usize) -> MaskKind
     MaskKind::NoMask
 }
 
+#[tactic(auto, unfolding(interface::specs::Record::scale_of))]
 fn decode_scale(code: usize, scale: f32) -> Scale
     ensures { result ≡ scale_of code scale }
 {
@@ -56,6 +60,7 @@ fn decode_scale(code: usize, scale: f32) -> Scale
     Scale::Given(0.0)
 }
 
+#[tactic(auto, unfolding(interface::specs::Record::mode_of))]
 fn decode_mode(code: usize) -> ScoreMode
     ensures { result ≡ mode_of code }
 {
@@ -66,6 +71,7 @@ fn decode_mode(code: usize) -> ScoreMode
 }
 
 // The rank, which is 0 where a code names no form or no mask kind, so that the call is refused.
+#[tactic(auto, unfolding(interface::specs::Record::codes_named, interface::specs::Record::rank_of))]
 fn decode_rank(form: usize, mask: usize, rank: usize) -> usize
     ensures { result ≡ rank_of form mask rank }
 {
@@ -79,6 +85,7 @@ fn decode_rank(form: usize, mask: usize, rank: usize) -> usize
 }
 
 // The call that 18 numbers, a scale and a cap stand for.
+#[tactic(auto, unfolding(interface::specs::Record::call_of))]
 pub fn decode(numbers: &[u64], scale: f32, softcap: f32) -> Call
     ensures { result ≡ call_of numbers.now scale softcap }
 {
