@@ -3,7 +3,7 @@ use mathlib.Core.Path.{◌≡◌, ap}
 use mathlib.Core.Bool.{true, false}
 use Prim.Native.Nat.{ℕ}
 use lib.IntN.{pos, negsuc}
-use lib.Ieee.{Float, fin, binary32, of_bits}
+use lib.Ieee.{Float, fin, of_bits}
 use Rattle.tables.specs.Power.{power_entry_of}
 use Rattle.tables.specs.Scale.{default_scale_of}
 use Rattle.exponential.specs.ExpNeg.{plus_zero, one, exp_neg_of}
