@@ -324,68 +324,68 @@ def refused_caps(rng):
 HEADER = """-- Tiny random calls, accepted and refused, without a cap and with one, and scores under each cap: the definitions give them the outcomes of a reference written from the rules. Floats are f32 bits.
 -- Made by `python3 tools/vectors.py vectors`. Assumes nothing.
 use mathlib.Core.Path.{refl}
-use mathlib.Core.List.{List, [], _∷_}
+use mathlib.Core.List.{List, [], ◌∷◌}
 use Prim.Native.Nat.{ℕ}
 use mathlib.Core.Bool.{true, false}
 use lib.IntN.{ℤ, pos, negsuc}
 use lib.ListN.{replicate}
-use lib.Ieee.{Float, nan, inf, fin, binary32, ofBits}
-use Rattle·exponential.specs.ExpNeg.{one}
-use Rattle·softmax.specs.Cap.{cappedWhere}
-use Rattle·call.specs.declared.Call.{Call}
-use Rattle·call.specs.declared.Form.{Form}
-use Rattle·call.specs.declared.Form.the-variants.{Plain, Cached, Counted}
-use Rattle·call.specs.declared.MaskKind.{MaskKind}
-use Rattle·call.specs.declared.MaskKind.the-variants.{NoMask, Boolean, FloatMask}
-use Rattle·call.specs.declared.Scale.{Scale}
-use Rattle·call.specs.declared.Scale.the-variants.{Absent, Given}
-use Rattle·call.specs.declared.ScoreMode.{ScoreMode}
-use Rattle·call.specs.declared.ScoreMode.the-variants.{NoScores, Mode}
-use Rattle·call.specs.declared.Answer.the-variants.{NotDone}
-use Rattle·call.specs.declared.Refusal.{Refusal}
-use Rattle·call.specs.declared.Refusal.the-variants.{Limits, HeadGroups, Settings, MaskShape, InputLength, OutputLength, LiveCount, MaskCell, Element}
-use Rattle·call.specs.Parts.{callWith}
-use Rattle·call.specs.Tensors.{Inputs, Outputs}
-use Rattle·attention.specs.Outcomes.{attentionOf}
-use Rattle·attention.specs.Calls.{tensors, done}
-use Rattle·attention.specs.Table.{Claim, outcome, underCap, AllHold}
+use lib.Ieee.{Float, nan, inf, fin, binary32, of_bits}
+use Rattle.exponential.specs.ExpNeg.{one}
+use Rattle.softmax.specs.Cap.{capped_where}
+use Rattle.call.specs.declared.Call.{Call}
+use Rattle.call.specs.declared.Form.{Form}
+use Rattle.call.specs.declared.Form.TheVariants.{Plain, Cached, Counted}
+use Rattle.call.specs.declared.MaskKind.{MaskKind}
+use Rattle.call.specs.declared.MaskKind.TheVariants.{NoMask, Boolean, FloatMask}
+use Rattle.call.specs.declared.Scale.{Scale}
+use Rattle.call.specs.declared.Scale.TheVariants.{Absent, Given}
+use Rattle.call.specs.declared.ScoreMode.{ScoreMode}
+use Rattle.call.specs.declared.ScoreMode.TheVariants.{NoScores, Mode}
+use Rattle.call.specs.declared.Answer.TheVariants.{NotDone}
+use Rattle.call.specs.declared.Refusal.{Refusal}
+use Rattle.call.specs.declared.Refusal.TheVariants.{Limits, HeadGroups, Settings, MaskShape, InputLength, OutputLength, LiveCount, MaskCell, Element}
+use Rattle.call.specs.Parts.{call_with}
+use Rattle.call.specs.Tensors.{Inputs, Outputs}
+use Rattle.attention.specs.Outcomes.{attention_of}
+use Rattle.attention.specs.Calls.{tensors, done}
+use Rattle.attention.specs.Table.{Claim, outcome, under_cap, AllHold}
 
 -- the cap's bits; rank and causal flag; B, Hq, Hkv; Sq, Sk, P; D, Dv; the mask's dimensions
 unfoldable call : Form → MaskKind → Scale → ScoreMode → (softcap rank causal batches qheads kvheads qlen klen past size vsize maskb maskh maskq maskk : ℕ) → Call
-unfolding ofBits
-call form mask scale mode softcap rank causal batches qheads kvheads qlen klen past size vsize maskb maskh maskq maskk = callWith form mask scale (ofBits binary32 softcap) mode rank causal batches qheads kvheads qlen klen past size vsize maskb maskh maskq maskk
+unfolding of_bits
+call form mask scale mode softcap rank causal batches qheads kvheads qlen klen past size vsize maskb maskh maskq maskk = call_with form mask scale (of_bits binary32 softcap) mode rank causal batches qheads kvheads qlen klen past size vsize maskb maskh maskq maskk
 
 unfoldable given : ℕ → Scale
-unfolding ofBits
-given bits = Given (ofBits binary32 bits)
+unfolding of_bits
+given bits = Given (of_bits binary32 bits)
 
 unfoldable floats : List ℕ → List Float
-unfolding ofBits
+unfolding of_bits
 floats [] = []
-floats (bits ∷ rest) = ofBits binary32 bits ∷ floats rest
+floats (bits ∷ rest) = of_bits binary32 bits ∷ floats rest
 
-unfoldable reading : (query key value boolMask floatMask pastKey pastValue : List ℕ) → List ℤ → Inputs
+unfoldable reading : (query key value bool_mask float_mask past_key past_value : List ℕ) → List ℤ → Inputs
 unfolding floats
-reading query key value boolMask floatMask pastKey pastValue live = record {
+reading query key value bool_mask float_mask past_key past_value live = record {
   query = floats query;
   key = floats key;
   value = floats value;
-  boolMask = boolMask;
-  floatMask = floats floatMask;
-  pastKey = floats pastKey;
-  pastValue = floats pastValue;
+  bool_mask = bool_mask;
+  float_mask = floats float_mask;
+  past_key = floats past_key;
+  past_value = floats past_value;
   live = live;
 }
 
 -- tensors of these lengths, each filled with a value of its own
-abbrev lent : (output presentKey presentValue scores work : ℕ) → Outputs
-lent output presentKey presentValue scores work = tensors (replicate output nan) (replicate presentKey (inf false)) (replicate presentValue (inf true)) (replicate scores (fin true 0 (pos 0))) (replicate work one)
+abbrev lent : (output present_key present_value scores work : ℕ) → Outputs
+lent output present_key present_value scores work = tensors (replicate output nan) (replicate present_key (inf false)) (replicate present_value (inf true)) (replicate scores (fin true 0 (pos 0))) (replicate work one)
 
 -- the call is accepted with T, the number of fully masked rows, and the five tensors
-unfoldable accepted : Call → Inputs → Outputs → (total masked : ℕ) → (output presentKey presentValue scores work : List ℕ) → Claim
+unfoldable accepted : Call → Inputs → Outputs → (total masked : ℕ) → (output present_key present_value scores work : List ℕ) → Claim
 unfolding floats
-accepted c x y total masked output presentKey presentValue scores work =
-    outcome c x y (done total masked (tensors (floats output) (floats presentKey) (floats presentValue) (floats scores) (floats work)))
+accepted c x y total masked output present_key present_value scores work =
+    outcome c x y (done total masked (tensors (floats output) (floats present_key) (floats present_value) (floats scores) (floats work)))
 
 -- the call is refused, and the tensors stay as they were lent
 abbrev refused : Call → Inputs → Outputs → Refusal → Claim
@@ -394,28 +394,28 @@ refused c x y r = outcome c x y (record { answer = NotDone r; tensors = y })
 
 DOT_HEADER = """-- Dot products of rows of 1 to 18 elements: the definition gives them the bits of a reference written from the rules. Floats are f32 bits.
 -- Made by `python3 tools/vectors.py dots`. Assumes nothing.
-use mathlib.Core.Path.{_≡_, refl}
-use mathlib.Core.List.{List, [], _∷_}
+use mathlib.Core.Path.{◌≡◌, refl}
+use mathlib.Core.List.{List, [], ◌∷◌}
 use Prim.Native.Nat.{ℕ}
-use lib.Ieee.{Float, binary32, ofBits}
-use Rattle·softmax·specs.specs.Lists.{dotRowOf}
+use lib.Ieee.{Float, binary32, of_bits}
+use Rattle.softmax.specs.Lists.{dot_row_of}
 
 unfoldable floats : List ℕ → List Float
-unfolding ofBits
+unfolding of_bits
 floats [] = []
-floats (bits ∷ rest) = ofBits binary32 bits ∷ floats rest
+floats (bits ∷ rest) = of_bits binary32 bits ∷ floats rest
 
 -- the dot product of two rows has these bits
 unfoldable pub Gives : (query key : List ℕ) → ℕ → Type 0
 unfolding floats
-Gives query key bits = dotRowOf (floats query) (floats key) ≡ ofBits binary32 bits
+Gives query key bits = dot_row_of (floats query) (floats key) ≡ of_bits binary32 bits
 """
 
 TABLES = """
 -- under a cap, by its bits, the second score becomes the third
 unfoldable under : (cap score capped : ℕ) → Claim
-unfolding ofBits
-under cap score capped = underCap (ofBits binary32 cap) (ofBits binary32 score) (ofBits binary32 capped)
+unfolding of_bits
+under cap score capped = under_cap (of_bits binary32 cap) (of_bits binary32 score) (of_bits binary32 capped)
 """
 
 NO_BREAK = "\u00a0"
@@ -497,8 +497,8 @@ def dots(seed=243):
     print(f"{DOT_HEADER}\npub record DotExamplesHold : Type 0 where")
     for n, (query, key, dot) in enumerate(rows, 1):
         print(f"  pub dot{n} : Gives {list_text(map(bits_text, query))} {list_text(map(bits_text, key))} {bits_text(dot)}".replace(NO_BREAK, " "))
-    print("\npub dot-examples : DotExamplesHold\nunfolding Gives dotRowOf ofBits")
-    print("dot-examples = record {\n" + "".join(f"  dot{n} = refl;\n" for n in range(1, len(rows) + 1)) + "}")
+    print("\npub dot_examples : DotExamplesHold\nunfolding Gives dot_row_of of_bits")
+    print("dot_examples = record {\n" + "".join(f"  dot{n} = refl;\n" for n in range(1, len(rows) + 1)) + "}")
 
 
 def vectors(seed=242):
@@ -508,17 +508,17 @@ def vectors(seed=242):
     wider = list(wider_calls(rng))
     scores = list(capped_scores())
     print(HEADER)
-    print_calls("vectorTable", calls)
-    print_proof("vectors", "vectorTable", calls, "attentionOf")
+    print_calls("vector_table", calls)
+    print_proof("vectors", "vector_table", calls, "attention_of")
     print(TABLES)
-    print_scores("capTable", scores)
-    print_proof("caps", "capTable", scores, "cappedWhere")
+    print_scores("cap_table", scores)
+    print_proof("caps", "cap_table", scores, "capped_where")
     print()
-    print_calls("cappedTable", capped)
-    print_proof("cappedVectors", "cappedTable", capped, "attentionOf")
+    print_calls("capped_table", capped)
+    print_proof("capped_vectors", "capped_table", capped, "attention_of")
     print()
-    print_calls("widerTable", wider)
-    print_proof("widerVectors", "widerTable", wider, "attentionOf")
+    print_calls("wider_table", wider)
+    print_proof("wider_vectors", "wider_table", wider, "attention_of")
 
 
 if __name__ == "__main__":
