@@ -3,12 +3,11 @@ use mathlib.Core.Path.{◌≡◌, refl}
 use mathlib.Core.Bool.{true, false, not}
 use lib.Ieee.{Float, nan, inf, fin, lt, of_bits, nan_bits}
 use Rattle.call.specs.Contents.{cell_fault}
-use Rattle.contents_masks.proofs.cell_fault.Statement.{statement}
-use Rattle.contents_masks.proofs.cell_fault.Tie as tie
+use Rattle.contents_masks.proofs.cell_fault.Goals as goal
 
-float-from-bits-result : tie.Need-float-from-bits-result
+pub float_from_bits-result : goal.float_from_bits-result
 unfolding nan_bits
-float-from-bits-result c = tt
+float_from_bits-result c = tt
 
 not-below-infinity : (x : Float) → not (lt x (inf false)) ≡ cell_fault x
 unfolding lt
@@ -17,9 +16,6 @@ not-below-infinity (inf true) = refl
 not-below-infinity (inf false) = refl
 not-below-infinity (fin s m e) = refl
 
-returns : tie.Need-returns
+pub returns : goal.returns
 unfolding of_bits
 returns c = not-below-infinity c.args.x
-
-pub cell-fault-spec : {M : Type 1} → statement M
-cell-fault-spec = tie.close (tie.spec float-from-bits-result returns)

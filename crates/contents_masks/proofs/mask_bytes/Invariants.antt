@@ -1,0 +1,13 @@
+-- `contents_masks::mask_bytes` meets its contract. The loop's invariant: no byte before i is at fault. Assumes nothing.
+use mathlib.Core.Path.{◌≡◌}
+use mathlib.Core.Bool.{false}
+use Prim.Native.Nat.{ℕ, ◌≤◌, ◌<◌, ◌-◌}
+use lib.ListN.{length, get_or}
+use Rattle.call.specs.Contents.{byte_fault}
+use Rattle.contents_masks.proofs.mask_bytes.Given as goal
+
+abbrev pub invariant-loop-i : goal.invariant-loop-i
+invariant-loop-i l = (l.i ≤ length l.mask) × ((k : ℕ) → k < l.i → byte_fault (get_or l.mask k 0) ≡ false)
+
+abbrev pub decreases-loop-i : goal.decreases-loop-i
+decreases-loop-i l = length l.mask - l.i
