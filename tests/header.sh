@@ -10,7 +10,7 @@ made=$(mktemp -d)
 trap 'rm -rf "$made"' EXIT
 flags="-O2 -Wall -Wextra -Wpedantic -Werror -Iinclude"
 library=${KLAVERDOMP_LIB_DIR:-target/staticlib}/libklaverdomp.a
-[ -f "$library" ] || rt staticlib klaverdomp
+[ -f "$library" ] || tools/static_library.sh
 
 for program in header header_sessions; do
     gcc -std=c99 $flags -o "$made/${program}_c" "tests/$program.c" "$library"

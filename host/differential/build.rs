@@ -32,7 +32,7 @@ fn link_library(repository: &Path) {
     println!("cargo:rerun-if-env-changed=KLAVERDOMP_LIB_DIR");
     let folder = env::var_os("KLAVERDOMP_LIB_DIR").map(PathBuf::from).unwrap_or_else(|| repository.join("target/staticlib"));
     let library = folder.join("libklaverdomp.a");
-    assert!(library.is_file(), "no static library at {}: make it with `rt staticlib klaverdomp`", library.display());
+    assert!(library.is_file(), "no static library at {}: make it with tools/static_library.sh", library.display());
     println!("cargo:rerun-if-changed={}", library.display());
     println!("cargo:rustc-link-search=native={}", folder.display());
     println!("cargo:rustc-link-lib=static=klaverdomp");

@@ -1,4 +1,4 @@
-// Links libklaverdomp.a, which `rt staticlib klaverdomp` writes to target/staticlib at the repository's root.
+// Links libklaverdomp.a, which tools/static_library.sh writes to target/staticlib at the repository's root.
 // KLAVERDOMP_LIB_DIR names another folder that holds it.
 
 use std::env;
@@ -14,7 +14,7 @@ fn main() {
     println!("cargo::rerun-if-changed={}", library.display());
     if !library.is_file() {
         println!(
-            "cargo::error={} is missing: run `rt staticlib klaverdomp` at the repository's root, or set KLAVERDOMP_LIB_DIR to the folder that holds it",
+            "cargo::error={} is missing: run tools/static_library.sh at the repository's root, or set KLAVERDOMP_LIB_DIR to the folder that holds it",
             library.display()
         );
         return;
