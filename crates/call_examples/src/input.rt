@@ -1,26 +1,36 @@
 // What standard input holds: hexadecimal numbers, each with a space or the end of a line after it, the records and tensors that they make, and the labels.
-ghost use Rattle.std.specs.Prelude.{◌≡◌, ◌≤◌, ◌<◌, length, take};
+ghost use Rattle.std.specs.Prelude.{◌≡◌, ◌≤◌, ◌<◌, length, take, IfOk};
 
 use call::Call;
+use std::io;
+use std::io::{ErrorKind, Read, Write};
 
 // The next byte, and the end of a line where there is none.
-fn byte() -> u8 {
+fn byte<R: Read>(from: &mut R) -> io::Result<u8> {
     let mut next = [b'\n'; 1];
-    io::read_full(0, &mut next);
-    next[0]
+    match from.read_exact(&mut next) {
+        Ok(()) => Ok(next[0]),
+        Err(e) => {
+            if e.kind() == ErrorKind::UnexpectedEof {
+                return Ok(b'\n');
+            }
+            Err(e)
+        }
+    }
 }
 
-// Copies the rest of a line to standard output, at most 64 bytes of it.
-pub fn copy_label() {
+// Copies the rest of a line, at most 64 bytes of it.
+pub fn copy_label<R: Read, W: Write>(from: &mut R, to: &mut W) -> io::Result<()> {
     let mut left: usize = 64;
     while left > 0 {
-        let next = byte();
+        let next = byte(from)?;
         if next == b'\n' {
-            return;
+            return Ok(());
         }
-        io::write_all(1, &[next]);
+        to.write_all(&[next])?;
         left -= 1;
     }
+    Ok(())
 }
 
 // What a digit stands for, and 16 for a byte that is no digit.
@@ -38,18 +48,18 @@ fn with_digit(number: usize, digit: usize) -> usize {
 }
 
 // The next number: the digits up to a byte that is none.
-pub fn number() -> usize {
+pub fn number<R: Read>(from: &mut R) -> io::Result<usize> {
     let mut all = 0;
     let mut places: usize = 0;
     while places < 17 {
-        let next = digit(byte());
+        let next = digit(byte(from)?);
         if next == 16 {
-            return all;
+            return Ok(all);
         }
         all = with_digit(all, next);
         places += 1;
     }
-    all
+    Ok(all)
 }
 
 fn lesser(a: usize, b: usize) -> usize
@@ -66,28 +76,28 @@ fn float_of(bits: u32) -> f32 {
     f32::from_bits(bits)
 }
 
-fn float() -> f32 {
-    float_of((number() % 4294967296) as u32)
+fn float<R: Read>(from: &mut R) -> io::Result<f32> {
+    Ok(float_of((number(from)? % 4294967296) as u32))
 }
 
 // The numbers of a record, as they cross the binary interface.
-fn numbers() -> [u64; 18]
-    ensures { 18 ≡ length result }
+fn numbers<R: Read>(from: &mut R) -> io::Result<[u64; 18]>
+    ensures { IfOk result (λ all. 18 ≡ length all) }
 {
     let mut all = [0u64; 18];
     let mut n: usize = 0;
     while n < 18 {
-        all[n] = number() as u64;
+        all[n] = number(from)? as u64;
         n += 1;
     }
-    all
+    Ok(all)
 }
 
 // A record: its 18 numbers, its scale and its cap.
-pub fn record() -> Call {
-    let all = numbers();
-    let scale = float();
-    interface_record::decode(&all, scale, float())
+pub fn record<R: Read>(from: &mut R) -> io::Result<Call> {
+    let all = numbers(from)?;
+    let scale = float(from)?;
+    Ok(interface_record::decode(&all, scale, float(from)?))
 }
 
 // The live count whose two's complement this is.
@@ -99,51 +109,51 @@ fn signed(n: usize) -> i64 {
 }
 
 // The next element of those that are given, and after them the one that stands as many places before.
-fn element(tensor: &[f32], given: usize, n: usize) -> f32
+fn element<R: Read>(from: &mut R, tensor: &[f32], given: usize, n: usize) -> io::Result<f32>
     requires { n < length tensor.now }
 {
     if n < given {
-        return float();
+        return float(from);
     }
-    tensor[n - given]
+    Ok(tensor[n - given])
 }
 
 // A tensor of floats, at the start of the array: its length, how many elements are given, and those. They are repeated up to the length.
-pub fn floats(tensor: &mut [f32]) -> usize
-    ensures { (result ≤ length tensor.new) × (result ≡ length (take result tensor.new)) }
+pub fn floats<R: Read>(from: &mut R, tensor: &mut [f32]) -> io::Result<usize>
+    ensures { IfOk result (λ count. (count ≤ length tensor.new) × (count ≡ length (take count tensor.new))) }
 {
-    let count = lesser(number(), tensor.len());
-    let given = number();
+    let count = lesser(number(from)?, tensor.len());
+    let given = number(from)?;
     let mut n = 0;
     while n < count {
-        tensor[n] = element(tensor, given, n);
+        tensor[n] = element(from, tensor, given, n)?;
         n += 1;
     }
-    count
+    Ok(count)
 }
 
 // The boolean mask, at the start of the array: its length and its bytes.
-pub fn bytes(mask: &mut [u8]) -> usize
-    ensures { (result ≤ length mask.new) × (result ≡ length (take result mask.new)) }
+pub fn bytes<R: Read>(from: &mut R, mask: &mut [u8]) -> io::Result<usize>
+    ensures { IfOk result (λ count. (count ≤ length mask.new) × (count ≡ length (take count mask.new))) }
 {
-    let count = lesser(number(), mask.len());
+    let count = lesser(number(from)?, mask.len());
     let mut n = 0;
     while n < count {
-        mask[n] = (number() % 256) as u8;
+        mask[n] = (number(from)? % 256) as u8;
         n += 1;
     }
-    count
+    Ok(count)
 }
 
 // The live counts, likewise.
-pub fn counts(live: &mut [i64]) -> usize
-    ensures { (result ≤ length live.new) × (result ≡ length (take result live.new)) }
+pub fn counts<R: Read>(from: &mut R, live: &mut [i64]) -> io::Result<usize>
+    ensures { IfOk result (λ count. (count ≤ length live.new) × (count ≡ length (take count live.new))) }
 {
-    let count = lesser(number(), live.len());
+    let count = lesser(number(from)?, live.len());
     let mut n = 0;
     while n < count {
-        live[n] = signed(number());
+        live[n] = signed(number(from)?);
         n += 1;
     }
-    count
+    Ok(count)
 }

@@ -2,6 +2,8 @@
 ghost use Rattle.std.specs.Prelude.{◌≤◌};
 
 use call::Answer;
+use std::io;
+use std::io::Write;
 
 // The code of a NaN. It is a NaN's pattern, so no value has it.
 const NO_VALUE: u32 = 0xffffffff;
@@ -14,24 +16,23 @@ fn code_of(x: f32) -> u32 {
     f32::to_bits(x)
 }
 
-fn print_code(code: u32) {
-    io::write_all(1, b" ");
-    io::print_hex(1, code as u64, 8);
+fn print_code<W: Write>(to: &mut W, code: u32) -> io::Result<()> {
+    write!(to, " {code:08x}")
 }
 
-fn print_count(n: u64) {
-    io::write_all(1, b" ");
-    io::print_decimal(1, n);
+fn print_count<W: Write>(to: &mut W, n: u64) -> io::Result<()> {
+    write!(to, " {n}")
 }
 
-fn print_all(tensor: &[f32; 4096], count: usize)
+fn print_all<W: Write>(to: &mut W, tensor: &[f32; 4096], count: usize) -> io::Result<()>
     requires { count ≤ 4096 }
 {
     let mut i = 0;
     while i < count {
-        print_code(code_of(tensor[i]));
+        print_code(to, code_of(tensor[i]))?;
         i += 1;
     }
+    Ok(())
 }
 
 // The digest with one more code.
@@ -52,26 +53,25 @@ fn digest_of(tensor: &[f32; 4096], count: usize) -> u32
 }
 
 // The bits of every element; of more than 64 elements their number and a digest of the bits.
-pub fn print_tensor(tensor: &[f32; 4096], count: usize)
+pub fn print_tensor<W: Write>(to: &mut W, tensor: &[f32; 4096], count: usize) -> io::Result<()>
     requires { count ≤ 4096 }
 {
-    io::write_all(1, b" |");
+    to.write_all(b" |")?;
     if count <= 64 {
-        print_all(tensor, count);
-        return;
+        return print_all(to, tensor, count);
     }
-    print_count(count as u64);
-    io::write_all(1, b" elements");
-    print_code(digest_of(tensor, count));
+    print_count(to, count as u64)?;
+    to.write_all(b" elements")?;
+    print_code(to, digest_of(tensor, count))
 }
 
 // The refusal's number, the tensor and the index at fault, T and the number of fully masked rows (blind rows).
-pub fn print_answer(answer: Answer) {
+pub fn print_answer<W: Write>(to: &mut W, answer: Answer) -> io::Result<()> {
     let report = interface_answer::report(answer);
-    io::write_all(1, b" |");
-    print_count(report.number as u64);
-    print_count(report.tensor);
-    print_count(report.index);
-    print_count(report.total);
-    print_count(report.masked);
+    to.write_all(b" |")?;
+    print_count(to, report.number as u64)?;
+    print_count(to, report.tensor)?;
+    print_count(to, report.index)?;
+    print_count(to, report.total)?;
+    print_count(to, report.masked)
 }

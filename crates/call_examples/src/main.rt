@@ -8,12 +8,24 @@ mod calls;
 mod input;
 mod lines;
 
-fn main() {
-    let mut left = input::number();
+use std::io;
+use std::io::{BufReader, BufWriter, Read, Write};
+
+// Makes the calls, of which there are as many as the first number says.
+fn run<R: Read, W: Write>(from: &mut R, to: &mut W) -> io::Result<()> {
+    let mut left = input::number(from)?;
     while left > 0 {
-        input::copy_label();
-        let call = input::record();
-        calls::finish(call);
+        input::copy_label(from, to)?;
+        let call = input::record(from)?;
+        calls::finish(from, to, call)?;
         left -= 1;
     }
+    to.flush()
+}
+
+// Ends with an error where a read or a write fails.
+fn main(rt: HostRuntime) -> io::Result<()> {
+    let mut from = BufReader::new(rt.alloc(), rt.reader())?;
+    let mut to = BufWriter::new(rt.alloc(), io::writer(&rt))?;
+    run(&mut from, &mut to)
 }
