@@ -21,14 +21,12 @@ fn byte<R: Read>(from: &mut R) -> io::Result<u8> {
 
 // Copies the rest of a line, at most 64 bytes of it.
 pub fn copy_label<R: Read, W: Write>(from: &mut R, to: &mut W) -> io::Result<()> {
-    let mut left: usize = 64;
-    while left > 0 {
+    for _ in 0..64 {
         let next = byte(from)?;
         if next == b'\n' {
             return Ok(());
         }
         to.write_all(&[next])?;
-        left -= 1;
     }
     Ok(())
 }
@@ -50,14 +48,12 @@ fn with_digit(number: usize, digit: usize) -> usize {
 // The next number: the digits up to a byte that is none.
 pub fn number<R: Read>(from: &mut R) -> io::Result<usize> {
     let mut all = 0;
-    let mut places: usize = 0;
-    while places < 17 {
+    for _ in 0..17 {
         let next = digit(byte(from)?);
         if next == 16 {
             return Ok(all);
         }
         all = with_digit(all, next);
-        places += 1;
     }
     Ok(all)
 }
@@ -85,10 +81,8 @@ fn numbers<R: Read>(from: &mut R) -> io::Result<[u64; 18]>
     ensures { IfOk result (λ all. 18 ≡ length all) }
 {
     let mut all = [0u64; 18];
-    let mut n: usize = 0;
-    while n < 18 {
+    for n in 0..18 {
         all[n] = number(from)? as u64;
-        n += 1;
     }
     Ok(all)
 }
@@ -124,10 +118,8 @@ pub fn floats<R: Read>(from: &mut R, tensor: &mut [f32]) -> io::Result<usize>
 {
     let count = lesser(number(from)?, tensor.len());
     let given = number(from)?;
-    let mut n = 0;
-    while n < count {
+    for n in 0..count {
         tensor[n] = element(from, tensor, given, n)?;
-        n += 1;
     }
     Ok(count)
 }
@@ -137,10 +129,8 @@ pub fn bytes<R: Read>(from: &mut R, mask: &mut [u8]) -> io::Result<usize>
     ensures { IfOk result (λ count. (count ≤ length mask.new) × (count ≡ length (take count mask.new))) }
 {
     let count = lesser(number(from)?, mask.len());
-    let mut n = 0;
-    while n < count {
+    for n in 0..count {
         mask[n] = (number(from)? % 256) as u8;
-        n += 1;
     }
     Ok(count)
 }
@@ -150,10 +140,8 @@ pub fn counts<R: Read>(from: &mut R, live: &mut [i64]) -> io::Result<usize>
     ensures { IfOk result (λ count. (count ≤ length live.new) × (count ≡ length (take count live.new))) }
 {
     let count = lesser(number(from)?, live.len());
-    let mut n = 0;
-    while n < count {
+    for n in 0..count {
         live[n] = signed(number(from)?);
-        n += 1;
     }
     Ok(count)
 }

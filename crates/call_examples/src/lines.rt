@@ -27,10 +27,8 @@ fn print_count<W: Write>(to: &mut W, n: u64) -> io::Result<()> {
 fn print_all<W: Write>(to: &mut W, tensor: &[f32; 4096], count: usize) -> io::Result<()>
     requires { count ≤ 4096 }
 {
-    let mut i = 0;
-    while i < count {
+    for i in 0..count {
         print_code(to, code_of(tensor[i]))?;
-        i += 1;
     }
     Ok(())
 }
@@ -44,10 +42,8 @@ fn digest_of(tensor: &[f32; 4096], count: usize) -> u32
     requires { count ≤ 4096 }
 {
     let mut all: u32 = 0;
-    let mut i = 0;
-    while i < count {
+    for i in 0..count {
         all = digest_with(all, code_of(tensor[i]));
-        i += 1;
     }
     all
 }

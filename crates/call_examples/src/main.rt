@@ -13,12 +13,10 @@ use std::io::{BufReader, BufWriter, Read, Write};
 
 // Makes the calls, of which there are as many as the first number says.
 fn run<R: Read, W: Write>(from: &mut R, to: &mut W) -> io::Result<()> {
-    let mut left = input::number(from)?;
-    while left > 0 {
+    for _ in 0..input::number(from)? {
         input::copy_label(from, to)?;
         let call = input::record(from)?;
         calls::finish(from, to, call)?;
-        left -= 1;
     }
     to.flush()
 }
