@@ -3,7 +3,7 @@ use lib.ListN.{set}
 use lib.Ieee.{Float, nan}
 use Rattle.tensor_laws.specs.Layout.{tabulate}
 use Rattle.tensor_laws.proofs.Tabulate.{tabulate_get_d}
-use Rattle.tensor_laws.proofs.InPlace.{indexed_to, indexed_next, length_indexed_to, indexed_all}
+use Rattle.tensor_laws.proofs.InPlace.{indexed_next, length_indexed_to, indexed_all}
 use Rattle.row_copies.proofs.copy_row.Invariants.{each_of}
 use Rattle.row_copies.proofs.copy_row.Goals as goal
 use Rattle.row_copies.proofs.copy_row.Goals.{At-loop-i, In-loop-i}
@@ -11,7 +11,6 @@ use Rattle.row_copies.proofs.copy_row.Goals.{At-loop-i, In-loop-i}
 -- the row keeps its length
 as_long : (c : At-loop-i) → length c.loop-i.to ≡ length c.args.to.now
 as_long c = ap length c.loop-i.invariant.1 ∙ length_indexed_to (each_of c.args.from.now) c.loop-i.i c.args.to.now
-
 
 pub loop-i-preserved : goal.loop-i-preserved
 loop-i-preserved c =

@@ -1,6 +1,6 @@
 use mathlib.Core.Path.{◌≡◌, refl, sym, ap, ◌∙◌, subst}
 use mathlib.Core.Bool.{Bool}
-use Prim.Native.Nat.{ℕ, ◌-◌}
+use Prim.Native.Nat.{ℕ}
 use native.Mathlib.Numerals.{add-one}
 use native.Mathlib.Omega.{arith}
 use lib.Dec.{T}
@@ -30,8 +30,8 @@ loop-i-preserved c =
     let x = element_of row i in
     let score = score_at_lem row a.requires i (omega arith) in
     let chosen : c.if-m-row.m ≡ greater (lt a.loop-i.m x) a.loop-i.m x = elim c.if-m-row.branch [
-      then-m-row w ↦ w.m-is ∙ ap (λ (b : Bool). greater b a.loop-i.m x) (sym w.if-m-row.true) |
-      else-m-row w ↦ w.m-is ∙ ap (λ (b : Bool). greater b a.loop-i.m x) (sym w.if-m-row.false)
+      | then-m-row w ↦ w.m-is ∙ ap (λ (b : Bool). greater b a.loop-i.m x) (sym w.if-m-row.true)
+      | else-m-row w ↦ w.m-is ∙ ap (λ (b : Bool). greater b a.loop-i.m x) (sym w.if-m-row.false)
     ] in (
       omega arith,
       chosen
