@@ -26,13 +26,11 @@ capped_by c = mul binary32 c.args.c (signed_by c.args.x (ratio_of c.args.g))
 pub returns-then-s : goal.returns-then-s
 unfolding of_bits neg ratio_of
 returns-then-s c =
-    let a = c in
-    ap (λ (b : Bool). cond b a.args.s (capped_by (goal.at.returns-then-s c).Start)) (sym c.if-s.true) ∙ chosen a.args.s (capped_by (goal.at.returns-then-s c).Start)
+    ap (λ (b : Bool). cond b c.args.s (capped_by (goal.at.returns-then-s c).Start)) (sym c.if-s.true) ∙ chosen c.args.s (capped_by (goal.at.returns-then-s c).Start)
 
 pub returns-else-s : goal.returns-else-s
 unfolding of_bits neg ratio_of
 returns-else-s c =
-    let a = c in
-    ap (mul binary32 a.args.c) c.signed_by.ensures
-    ∙ ap (λ (b : Bool). cond b a.args.s (capped_by (goal.at.returns-else-s c).Start)) (sym c.if-s.false)
-    ∙ chosen a.args.s (capped_by (goal.at.returns-else-s c).Start)
+    ap (mul binary32 c.args.c) c.signed_by.ensures
+    ∙ ap (λ (b : Bool). cond b c.args.s (capped_by (goal.at.returns-else-s c).Start)) (sym c.if-s.false)
+    ∙ chosen c.args.s (capped_by (goal.at.returns-else-s c).Start)

@@ -24,27 +24,25 @@ loop-i-init c = (omega arith, refl, tt)
 pub loop-i-preserved : goal.loop-i-preserved
 unfolding largest_of
 loop-i-preserved c =
-    let a = c in
-    let row = a.args.row.now in
-    let i = a.loop-i.i in
+    let row = c.args.row.now in
+    let i = c.loop-i.i in
     let x = element_of row i in
-    let score = score_at_lem row a.requires i (omega arith) in
-    let chosen : c.if-m-row.m ≡ greater (lt a.loop-i.m x) a.loop-i.m x = elim c.if-m-row.branch [
-      | then-m-row w ↦ w.m-is ∙ ap (λ (b : Bool). greater b a.loop-i.m x) (sym w.if-m-row.true)
-      | else-m-row w ↦ w.m-is ∙ ap (λ (b : Bool). greater b a.loop-i.m x) (sym w.if-m-row.false)
+    let score = score_at_lem row c.requires i (omega arith) in
+    let chosen : c.if-m-row.m ≡ greater (lt c.loop-i.m x) c.loop-i.m x = elim c.if-m-row.branch [
+      | then-m-row w ↦ w.m-is ∙ ap (λ (b : Bool). greater b c.loop-i.m x) (sym w.if-m-row.true)
+      | else-m-row w ↦ w.m-is ∙ ap (λ (b : Bool). greater b c.loop-i.m x) (sym w.if-m-row.false)
     ] in (
       omega arith,
       chosen
-          ∙ ap (λ (m : Float). greater (lt m x) m x) a.loop-i.invariant.1
-          ∙ next_largest (firsts_of row i) x a.loop-i.invariant.2 score
+          ∙ ap (λ (m : Float). greater (lt m x) m x) c.loop-i.invariant.1
+          ∙ next_largest (firsts_of row i) x c.loop-i.invariant.2 score
           ∙ ap (λ (n : ℕ). score_or_hidden (firsts_of row n)) (sym (add-one i)),
-      subst (λ (n : ℕ). T (is_finite_or_none (firsts_of row n))) (sym (add-one i)) (next_finite (firsts_of row i) x a.loop-i.invariant.2 score),
+      subst (λ (n : ℕ). T (is_finite_or_none (firsts_of row n))) (sym (add-one i)) (next_finite (firsts_of row i) x c.loop-i.invariant.2 score),
     )
 
 pub returns : goal.returns
 unfolding largest_row_of
 returns c =
-    let a = c in
-    let row = a.args.row.now in
-    let all : a.loop-i.i ≡ length row = omega arith in
-    a.loop-i.invariant.1 ∙ ap (λ (n : ℕ). score_or_hidden (firsts_of row n)) all
+    let row = c.args.row.now in
+    let all : c.loop-i.i ≡ length row = omega arith in
+    c.loop-i.invariant.1 ∙ ap (λ (n : ℕ). score_or_hidden (firsts_of row n)) all

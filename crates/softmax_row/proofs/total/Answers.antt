@@ -16,17 +16,15 @@ loop-i-init c = (omega arith, refl)
 pub loop-i-preserved : goal.loop-i-preserved
 unfolding sum_of
 loop-i-preserved c =
-    let a = c in
-    let row = a.args.row.now in (
+    let row = c.args.row.now in (
       omega arith,
-      ap (λ (s : Float). add binary32 s (get_or row a.loop-i.i nan)) a.loop-i.invariant.1
-          ∙ ap (λ (n : ℕ). sum_of n (λ j. true) (element_of row)) (sym (add-one a.loop-i.i)),
+      ap (λ (s : Float). add binary32 s (get_or row c.loop-i.i nan)) c.loop-i.invariant.1
+          ∙ ap (λ (n : ℕ). sum_of n (λ j. true) (element_of row)) (sym (add-one c.loop-i.i)),
     )
 
 pub returns : goal.returns
 unfolding total_row_of
 returns c =
-    let a = c in
-    let row = a.args.row.now in
-    let all : a.loop-i.i ≡ length row = omega arith in
-    a.loop-i.invariant.1 ∙ ap (λ (n : ℕ). sum_of n (λ j. true) (element_of row)) all
+    let row = c.args.row.now in
+    let all : c.loop-i.i ≡ length row = omega arith in
+    c.loop-i.invariant.1 ∙ ap (λ (n : ℕ). sum_of n (λ j. true) (element_of row)) all
