@@ -15,14 +15,11 @@ pub loop-i-init : goal.loop-i-init
 loop-i-init c = (omega arith, omega arith, sym (count_start (payload_fault c.args.payload.now 0)))
 
 -- what element i adds
-added : (c : After-pattern_fault-faults)
-    → let l = c in
-    c.pattern_fault-faults.result ≡ tally (payload_fault l.args.payload.now 0 l.loop-i.i)
+added : (c : After-pattern_fault-faults) → c.pattern_fault-faults.result ≡ tally (payload_fault c.args.payload.now 0 c.loop-i.i)
 unfolding f32_at
 added c =
-    let l = c in
-    let payload = l.args.payload.now in
-    let at : 0 + l.loop-i.i * 4 ≡ l.loop-i.i * 4 = omega arith in
+    let payload = c.args.payload.now in
+    let at : 0 + c.loop-i.i * 4 ≡ c.loop-i.i * 4 = omega arith in
     c.pattern_fault-faults.ensures
     ∙ ap (λ (n : ℕ). tally (element_fault (of_bits binary32 n))) c.u32_at.ensures
     ∙ ap (λ (n : ℕ). tally (element_fault (of_bits binary32 (u32_at payload n)))) (sym at)

@@ -18,8 +18,7 @@ headed_long a = a.put_head.auto.bytes ∙ a.requires.bytes_len
 -- the bytes keep their number
 as_long : (a : At-loop-r) → length a.loop-r.bytes ≡ record_length a.args.sizes
 as_long a =
-    let s = a in
-    ap length a.loop-r.invariant.1 ∙ length_position_to s.args.sizes s.args.n s.args.keys.now s.args.values.now s.requires.caches_fit s.args.p s.requires.p_lt_n (headed a) (headed_long a) a.loop-r.r a.loop-r.invariant.0
+    ap length a.loop-r.invariant.1 ∙ length_position_to a.args.sizes a.args.n a.args.keys.now a.args.values.now a.requires.caches_fit a.args.p a.requires.p_lt_n (headed a) (headed_long a) a.loop-r.r a.loop-r.invariant.0
 
 pub overflow_mul-rows : goal.overflow_mul-rows
 overflow_mul-rows c = omega (arith, (fit→facts c.requires.caches_fit).rows.1)

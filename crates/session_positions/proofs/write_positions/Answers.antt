@@ -19,9 +19,8 @@ long_is a = ap (λ (m : ℕ). 6 + m) a.payload_length-long.ensures
 -- the bytes keep their number
 as_long : (a : At-loop-p) → let s = a.args in length a.loop-p.bytes ≡ s.n * record_length s.sizes
 as_long a =
-    let c = a in
-    let s = c.args in
-    ap length a.loop-p.invariant.1 ∙ length_positions_to s.sizes s.n s.keys.now s.values.now c.requires.caches_fit s.bytes.now c.requires.bytes_len a.loop-p.p a.loop-p.invariant.0
+    let s = a.args in
+    ap length a.loop-p.invariant.1 ∙ length_positions_to s.sizes s.n s.keys.now s.values.now a.requires.caches_fit s.bytes.now a.requires.bytes_len a.loop-p.p a.loop-p.invariant.0
 
 -- a record ends inside the bytes, which can be counted
 inside : (a : At-loop-p) → a.loop-p.p < a.args.n → (a.loop-p.p * long_of a + long_of a ≤ length a.loop-p.bytes) × (length a.loop-p.bytes ≤ 1073754126)

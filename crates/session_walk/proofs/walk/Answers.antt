@@ -14,17 +14,15 @@ use Rattle.session_walk.proofs.walk.Goals.{After-next}
 
 -- the walk by what stands at position p
 by_next : (c : After-next) (k : Next) (b : Bool)
-    → let l = c in
-    let s = l.args in
-    c.next.result ≡ k → position_fault s.sizes s.file.now l.loop-p.p ≡ b
-    → onward s.sizes l.loop-p.p k b (walk_from s.sizes s.file.now (2048 - (l.loop-p.p + 1)) (l.loop-p.p + 1)) ≡ walk_from s.sizes s.file.now 2048 0
+    → let s = c.args in
+    c.next.result ≡ k → position_fault s.sizes s.file.now c.loop-p.p ≡ b
+    → onward s.sizes c.loop-p.p k b (walk_from s.sizes s.file.now (2048 - (c.loop-p.p + 1)) (c.loop-p.p + 1)) ≡ walk_from s.sizes s.file.now 2048 0
 by_next c k b e f =
-    let l = c in
-    let s = l.args in
-    let p = l.loop-p.p in
+    let s = c.args in
+    let p = c.loop-p.p in
     let rest = walk_from s.sizes s.file.now (2048 - (p + 1)) (p + 1) in
     sym (
-    l.loop-p.invariant.1
+    c.loop-p.invariant.1
     ∙ walk_on s.sizes s.file.now p c.loop-p-test.true
     ∙ (λ j. onward s.sizes p ((sym c.next.ensures ∙ e) j) (f j) rest)
     )
