@@ -1,6 +1,5 @@
 -- `lanes_four::store_four` meets its contract.
 use mathlib.Core.Path.{◌∙◌}
-use borrow.Author.Rules.{rules}
 use Rattle.tensor_laws.proofs.Parts.{with_part}
 use Rattle.lanes.proofs.Stored.{four_stored}
 use Rattle.lanes_four.proofs.store_four.Goals as goal

@@ -1,14 +1,13 @@
 use mathlib.Core.Path.{◌≡◌, refl, sym, ap, ◌∙◌}
 use mathlib.Core.List.{List}
 use Prim.Native.Nat.{ℕ, ◌+◌, ◌*◌, ◌/◌, ◌-◌, ◌≤◌, ◌<◌}
-use native.Mathlib.Nat.{le_refl, mul-mod_left, div-mul-le_self}
+use native.Mathlib.Nat.{le_refl, div-mul-le_self}
 use native.Mathlib.Omega.{arith}
 use lib.ListN.{length, take, drop}
 use lib.Ieee.{Float, nan}
 use Rattle.tensor_laws.specs.Layout.{tabulate}
-use Rattle.tensor_laws.proofs.Tabulate.{length_tabulate, get_or_tabulate, tabulate_ext, tabulate_get_d}
+use Rattle.tensor_laws.proofs.Tabulate.{get_or_tabulate, tabulate_ext, tabulate_get_d}
 use Rattle.tensor_laws.proofs.Parts.{with_part, length_part}
-use Rattle.tensor_laws.proofs.Tails.{length_first}
 use Rattle.tensor_laws.proofs.Blocks.{written_to, block_more, get_or_unwritten}
 use Rattle.softmax.specs.Lists.{element_of}
 use Rattle.lanes.specs.Sums.{lanes_of, lane_at}

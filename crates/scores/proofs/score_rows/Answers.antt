@@ -8,10 +8,9 @@ use lib.ListN.{length, take, drop}
 use lib.Seq.{drop-length}
 use lib.Ieee.{Float}
 use Rattle.tensor_laws.specs.Layout.{tabulate}
-use Rattle.tensor_laws.proofs.Tabulate.{length_tabulate}
 use Rattle.tensor_laws.proofs.Blocks.{block_more, rest_written}
 use Rattle.tensor_laws.proofs.Parts.{with_part, length_with_part, length_part as length-middle}
-use Rattle.tensor_laws.proofs.Tails.{part_of, length_part, length_first}
+use Rattle.tensor_laws.proofs.Tails.{part_of, length_part}
 use Rattle.softmax.specs.Lists.{score_rows_of}
 use Rattle.scores.proofs.Keys.{score_of_key, scores_from, scores_all, block_fits}
 use Rattle.scores.proofs.score_rows.Goals as goal
