@@ -1,16 +1,13 @@
-use mathlib.Core.Path.{◌≡◌, sym, ap, ◌∙◌}
-use mathlib.Core.Bool.{Bool}
-use mathlib.Core.List.{List}
-use Prim.Native.Nat.{ℕ, ◌+◌, ◌*◌, ◌-◌, ◌<◌, ◌≤◌, min}
+use mathlib.Core.Path.{sym, ap, ◌∙◌}
+use Prim.Native.Nat.{ℕ, ◌+◌, ◌*◌, ◌-◌}
 use native.Mathlib.Nat.{add-mul, zero-min, min-eq_left}
 use native.Mathlib.Omega.{arith}
 use borrow.Rule.Slice.PartMut.{mid_len}
 use lib.ListN.{length, take, drop}
-use lib.Ieee.{Float}
 use Rattle.softmax.specs.Lists.{weighted_rows_of}
 use Rattle.admitted_sum.specs.Sums.{RunEnd}
 use Rattle.tensor_laws.proofs.Tails.{part_of, length_part}
-use Rattle.admitted_sum.proofs.Weighed.{admits_at, run_from, weighed_to, weighed_none, length_weighed, weighed_run_lem, weighed_stop}
+use Rattle.admitted_sum.proofs.Weighed.{admits_at, run_from, weighed_to, weighed_none, weighed_run_lem, weighed_stop}
 use Rattle.admitted_sum.proofs.weigh_admitted.Invariants.{sees_of}
 use Rattle.admitted_sum.proofs.weigh_admitted.Goals as goal
 use Rattle.admitted_sum.proofs.weigh_admitted.Goals.{After-run_end}

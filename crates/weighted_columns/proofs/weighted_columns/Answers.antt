@@ -7,9 +7,8 @@ use lib.ListN.{length, take, drop}
 use lib.Seq.{drop-length}
 use lib.Ieee.{Float, nan}
 use Rattle.tensor_laws.specs.Layout.{tabulate}
-use Rattle.tensor_laws.proofs.Tabulate.{length_tabulate}
 use Rattle.tensor_laws.proofs.Parts.{with_part, length_part as length-middle}
-use Rattle.tensor_laws.proofs.Tails.{part_of, length_part, length_first}
+use Rattle.tensor_laws.proofs.Tails.{part_of, length_part}
 use Rattle.tensor_laws.proofs.Blocks.{written_to, block_more, get_or_unwritten, rest_written}
 use Rattle.softmax.specs.Lists.{weighted_rows_of}
 use Rattle.weighted_columns.proofs.Columns.{column_at, all_columns, columns_from, no_positions}

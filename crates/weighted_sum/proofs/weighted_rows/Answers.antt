@@ -7,7 +7,7 @@ use lib.ListN.{length, take, drop}
 use lib.Seq.{get_or-take, get_or-drop}
 use lib.Ieee.{Float, nan}
 use Rattle.tensor_laws.specs.Layout.{tabulate}
-use Rattle.tensor_laws.proofs.Tabulate.{length_tabulate, tabulate_get_d}
+use Rattle.tensor_laws.proofs.Tabulate.{tabulate_get_d}
 use Rattle.tensor_laws.proofs.Parts.{length_part as length-middle}
 use Rattle.tensor_laws.proofs.Tails.{part_of, length_part, get_or_part}
 use Rattle.softmax.specs.Lists.{accumulated_of, weighted_rows_of}
