@@ -32,49 +32,53 @@ absent Plain out t m z l = none_long out l
 absent Cached out t m z l = absurd (omega arith)
 absent Counted out t m z l = none_long out l
 
-no_keys : (c : Start) → in_cached c.args.call.form 1 ≡ 0 → c.args.presentkey-1.now ≡ present_key_tensor c.args.call (inputs c)
+no_keys : (c : Start) → in_cached c.args.call.form 1 ≡ 0 → c.args.presentkey.now ≡ present_key_tensor c.args.call (inputs c)
 unfolding present_key_tensor
-no_keys c z = let s = c.args in absent s.call.form s.presentkey-1.now _ (s.call.batches * s.call.kvheads * total_of s.call * s.call.size) z c.requires.output_len.1.0
+no_keys c z = let s = c.args in absent s.call.form s.presentkey.now _ (s.call.batches * s.call.kvheads * total_of s.call * s.call.size) z c.requires.presentkey_len.0
 
-no-values : (c : Start) → in_cached c.args.call.form 1 ≡ 0 → c.args.presentvalue-1.now ≡ present_value_tensor c.args.call (inputs c)
+no_values : (c : Start) → in_cached c.args.call.form 1 ≡ 0 → c.args.presentvalue.now ≡ present_value_tensor c.args.call (inputs c)
 unfolding present_value_tensor
-no-values c z = let s = c.args in absent s.call.form s.presentvalue-1.now _ (s.call.batches * s.call.kvheads * total_of s.call * s.call.vsize) z c.requires.output_len.1.1
+no_values c z = let s = c.args in absent s.call.form s.presentvalue.now _ (s.call.batches * s.call.kvheads * total_of s.call * s.call.vsize) z c.requires.presentkey_len.1
 
 -- every head, where there are no present caches
 heads_done : (c : Start) (y s work : List Float) (r : ℕ)
-    → ((y₀ s₀ : List Float) (m : ℕ) → HeadsTo c.args.call (inputs c) y₀ s₀ 0 c.args.output-1.now c.args.scores-1.now c.args.work-1.now m → HeadsTo c.args.call (inputs c) y₀ s₀ (c.args.call.batches * c.args.call.qheads) y s work (m + r))
+    → ((y₀ s₀ : List Float) (m : ℕ) → HeadsTo c.args.call (inputs c) y₀ s₀ 0 c.args.output.now c.args.scores.now c.args.work.now m → HeadsTo c.args.call (inputs c) y₀ s₀ (c.args.call.batches * c.args.call.qheads) y s work (m + r))
     → in_cached c.args.call.form 1 ≡ 0
-    → HeadsDone c.args.call (inputs c) y c.args.presentkey-1.now c.args.presentvalue-1.now s work r
+    → HeadsDone c.args.call (inputs c) y c.args.presentkey.now c.args.presentvalue.now s work r
 heads_done c y s work r carried z =
     let a = c.args in
-    let q = c.requires.output_len.0 in
-    subst (HeadsDone a.call (inputs c) y a.presentkey-1.now a.presentvalue-1.now s work) (zero-add r)
-    (finished a.call (inputs c) (within c) a.output-1.now a.scores-1.now (a.call.batches * a.call.qheads) y a.presentkey-1.now a.presentvalue-1.now s work (0 + r)
-    (carried a.output-1.now a.scores-1.now 0 (begun a.call (inputs c) (within c) a.output-1.now a.scores-1.now a.work-1.now q.0 q.1 q.2)) (omega arith) (no_keys c z) (no-values c z))
+    let q = c.requires.output_len in
+    subst (HeadsDone a.call (inputs c) y a.presentkey.now a.presentvalue.now s work) (zero-add r)
+    (finished a.call (inputs c) (within c) a.output.now a.scores.now (a.call.batches * a.call.qheads) y a.presentkey.now a.presentvalue.now s work (0 + r)
+    (carried a.output.now a.scores.now 0 (begun a.call (inputs c) (within c) a.output.now a.scores.now a.work.now q.0 q.1 q.2)) (omega arith) (no_keys c z) (no_values c z))
 
 pub overflow_mul-all : goal.overflow_mul-all
 overflow_mul-all c = let l = within (goal.at.overflow_mul-all c).Start in omega (arith, mul-le-mul {n₂ = 8} {m₂ = 32} l.batches_most l.qheads_most)
 
 pub heads_between-requires : goal.heads_between-requires
-heads_between-requires c = let s = c in (s.requires.accepting, ((omega arith, omega arith), s.requires.output_len.0))
+heads_between-requires c = record { accepting = c.requires.accepting; from_le_to = (omega arith, omega arith); output_len = c.requires.output_len }
 
 pub cached_heads-requires : goal.cached_heads-requires
 cached_heads-requires c =
-    let s = c in
-    let a = s.args in
-    let e : a.call.form ≡ Cached = c.enum_told-in-Cached-1.given.1 in
-    let p = s.requires.output_len.1 in
-    (s.requires.accepting, (e, (s.requires.output_len.0, (p.0 ∙ ap (λ (f : Form). in_cached f (a.call.batches * a.call.kvheads * total_of a.call * a.call.size)) e, p.1 ∙ ap (λ (f : Form). in_cached f (a.call.batches * a.call.kvheads * total_of a.call * a.call.vsize)) e))))
+    let a = c.args in
+    let e : a.call.form ≡ Cached = c.in-Cached.is in
+    let p = c.requires.presentkey_len in
+    record {
+      accepting = c.requires.accepting;
+      form_value = e;
+      output_len = c.requires.output_len;
+      presentkey_len = (p.0 ∙ ap (λ (f : Form). in_cached f (a.call.batches * a.call.kvheads * total_of a.call * a.call.size)) e, p.1 ∙ ap (λ (f : Form). in_cached f (a.call.batches * a.call.kvheads * total_of a.call * a.call.vsize)) e);
+    }
 
 pub heads_between-requires-in-Counted : goal.heads_between-requires-in-Counted
-heads_between-requires-in-Counted c = let s = c in (s.requires.accepting, ((omega arith, omega arith), s.requires.output_len.0))
+heads_between-requires-in-Counted c = record { accepting = c.requires.accepting; from_le_to = (omega arith, omega arith); output_len = c.requires.output_len }
 
 pub returns-in-Plain : goal.returns-in-Plain
 returns-in-Plain c =
-    let h = c in
-    heads_done c h.heads_between.new.1.1.1.1.1.1.1.1.1.1.1.1.0 h.heads_between.new.1.1.1.1.1.1.1.1.1.1.1.1.1.0 h.heads_between.new.1.1.1.1.1.1.1.1.1.1.1.1.1.1.0 h.heads_between.result h.heads_between.ensures (ap (λ (f : Form). in_cached f 1) h.enum_told-1.given.1)
+    let h = c.heads_between in
+    heads_done (goal.at.returns-in-Plain c).Start h.new.output h.new.scores h.new.work h.result h.ensures (ap (λ (f : Form). in_cached f 1) c.in-Plain.is)
 
 pub returns-in-Counted : goal.returns-in-Counted
 returns-in-Counted c =
-    let h = c in
-    heads_done c h.heads_between-in-Counted.new.1.1.1.1.1.1.1.1.1.1.1.1.0 h.heads_between-in-Counted.new.1.1.1.1.1.1.1.1.1.1.1.1.1.0 h.heads_between-in-Counted.new.1.1.1.1.1.1.1.1.1.1.1.1.1.1.0 h.heads_between-in-Counted.result h.heads_between-in-Counted.ensures (ap (λ (f : Form). in_cached f 1) h.enum_told-in-Counted-1.given.1)
+    let h = c.heads_between-in-Counted in
+    heads_done (goal.at.returns-in-Counted c).Start h.new.output h.new.scores h.new.work h.result h.ensures (ap (λ (f : Form). in_cached f 1) c.in-Counted.is)
