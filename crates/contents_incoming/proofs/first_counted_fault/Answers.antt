@@ -7,21 +7,10 @@ use Rattle.call.specs.Contents.{Found}
 use Rattle.call.proofs.Facts.{limits→facts}
 use Rattle.contents.specs.Faults.{index_or}
 use Rattle.contents.proofs.Groups.{search_rank4, search_rank3}
-use Rattle.contents.proofs.Counted.{length_rank4, length_rank3}
 use Rattle.contents_incoming.proofs.first_counted_fault.Goals as goal
 
-pub first_live_fault-requires : goal.first_live_fault-requires
-first_live_fault-requires c =
-    let p = c.requires in
-    let f = limits→facts _ p.call_value in
-    record {
-      call_value = p.call_value;
-      live_len = p.live_len;
-      by_index = p.by_index;
-      le_heads = f.kvheads_some;
-      le_unit = p.le_size.0;
-      tensor_len = p.tensor_len ∙ length_rank4 c.args.call.batches _ _ _;
-    }
+pub first_live_fault-requires-clause-le_heads : goal.first_live_fault-requires-clause-le_heads
+first_live_fault-requires-clause-le_heads c = let f = limits→facts _ c.requires.call_value in omega arith
 
 pub returns-then-call-eq4 : goal.returns-then-call-eq4
 returns-then-call-eq4 c =
@@ -38,18 +27,11 @@ overflow_mul-call c =
     let f = limits→facts _ p.call_value in
     omega (arith, mul-le-mul f.kvheads_most p.le_size.1)
 
-pub first_live_fault-requires-2 : goal.first_live_fault-requires-2
-first_live_fault-requires-2 c =
+pub first_live_fault-requires-2-clause-le_unit : goal.first_live_fault-requires-2-clause-le_unit
+first_live_fault-requires-2-clause-le_unit c =
     let p = c.requires in
     let f = limits→facts _ p.call_value in
-    record {
-      call_value = p.call_value;
-      live_len = p.live_len;
-      by_index = p.by_index;
-      le_heads = omega arith;
-      le_unit = mul-pos f.kvheads_some p.le_size.0;
-      tensor_len = p.tensor_len ∙ length_rank3 c.args.call.batches _ _ _;
-    }
+    omega (arith, mul-pos f.kvheads_some p.le_size.0)
 
 pub returns : goal.returns
 returns c =
