@@ -36,6 +36,7 @@ fn is_unscored(mode: ScoreMode) -> bool
 }
 
 // Whether the record is of the step profile.
+#[tactic(auto, unfolding(call::specs::Profile::profile_holds))]
 pub fn profile_holds(call: Call) -> bool
     ensures { result ≡ profile_holds call }
 {
