@@ -17,8 +17,8 @@ held c = cc (c.sizes_hold.ensures, c.if-sizes_hold.true)
 
 pub write_sizes-requires : goal.write_sizes-requires
 write_sizes-requires c = record {
-    sizes_value = held (goal.at.write_sizes-requires c).Then-sizes_hold;
-    in_bounds = c.if-buffer-ge14.true;
+  sizes_value = held (goal.at.write_sizes-requires c).Then-sizes_hold;
+  in_bounds = c.if-buffer-ge14.true;
 }
 
 pub returns-then-buffer-ge14 : goal.returns-then-buffer-ge14
