@@ -5,10 +5,8 @@ use Rattle.contents_masks.proofs.mask_cells.Goals as goal
 
 pub returns-then-cell_fault : goal.returns-then-cell_fault
 returns-then-cell_fault c =
-    let a = c in
-    rw (first→cells a.args.mask.now a.loop-i.i c.loop-i-test.true (sym c.cell_fault.ensures ∙ c.if-cell_fault.true) a.loop-i.invariant.1)
+    rw (first→cells c.args.mask.now c.loop-i.i c.loop-i-test.true (sym c.cell_fault.ensures ∙ c.if-cell_fault.true) c.loop-i.invariant.1)
 
 pub returns : goal.returns
 returns c =
-    let a = c in
-    rw (clear→cells a.args.mask.now (λ k h. a.loop-i.invariant.1 k (omega arith)))
+    rw (clear→cells c.args.mask.now (λ k h. c.loop-i.invariant.1 k (omega arith)))
