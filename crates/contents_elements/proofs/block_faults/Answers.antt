@@ -17,14 +17,12 @@ loop-i-init c = (omega arith, omega arith, refl)
 -- one element adds at most 1
 at_most_one : (c : After-fault_number-faults) → c.fault_number-faults.result ≤ 1
 at_most_one c =
-    let a = c in
     let e = c.fault_number-faults.ensures in
-    let n = tally_le (element_fault (get_or a.args.block.now a.loop-i.i nan)) in
+    let n = tally_le (element_fault (get_or c.args.block.now c.loop-i.i nan)) in
     omega arith
 
 pub loop-i-preserved : goal.loop-i-preserved
 loop-i-preserved c =
-    let a = c in
-    let block = a.args.block.now in
+    let block = c.args.block.now in
     let n = at_most_one (goal.at.loop-i-preserved c).After-fault_number-faults in
-    (omega arith, omega arith, (λ i. a.loop-i.invariant.2 i + c.fault_number-faults.ensures i) ∙ count_next block a.loop-i.i (omega arith))
+    (omega arith, omega arith, (λ i. c.loop-i.invariant.2 i + c.fault_number-faults.ensures i) ∙ count_next block c.loop-i.i (omega arith))

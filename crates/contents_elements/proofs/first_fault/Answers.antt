@@ -6,10 +6,8 @@ use Rattle.contents_elements.proofs.first_fault.Goals as goal
 
 pub returns-then-fault_number-ne0 : goal.returns-then-fault_number-ne0
 returns-then-fault_number-ne0 c =
-    let a = c in
-    rw (first→tensor a.args.tensor.now a.loop-i.i c.loop-i-test.true (tally_some _ (λ z. c.if-fault_number-ne0.true (c.fault_number.ensures ∙ z))) a.loop-i.invariant.1)
+    rw (first→tensor c.args.tensor.now c.loop-i.i c.loop-i-test.true (tally_some _ (λ z. c.if-fault_number-ne0.true (c.fault_number.ensures ∙ z))) c.loop-i.invariant.1)
 
 pub returns : goal.returns
 returns c =
-    let a = c in
-    rw (clear→tensor a.args.tensor.now (λ k h. a.loop-i.invariant.1 k (omega arith))) (omega arith)
+    rw (clear→tensor c.args.tensor.now (λ k h. c.loop-i.invariant.1 k (omega arith))) (omega arith)

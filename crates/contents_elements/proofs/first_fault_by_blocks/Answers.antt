@@ -13,10 +13,9 @@ use Rattle.contents_elements.proofs.first_fault_by_blocks.Goals.{After-first_fau
 
 pub loop-at-preserved : goal.loop-at-preserved
 loop-at-preserved c =
-    let a = c in
-    let t = a.args.tensor.now in
-    let block = part_clear a.loop-at.at (a.loop-at.at + 64) t (omega arith) (omega arith) (count_none _ (sym c.block_faults.ensures ∙ c.if-block_faults-ne0.false)) in
-    (omega arith, below_both (λ k. element_fault (get_or t k nan) ≡ false) a.loop-at.at (a.loop-at.at + 64) a.loop-at.invariant.1 block)
+    let t = c.args.tensor.now in
+    let block = part_clear c.loop-at.at (c.loop-at.at + 64) t (omega arith) (omega arith) (count_none _ (sym c.block_faults.ensures ∙ c.if-block_faults-ne0.false)) in
+    (omega arith, below_both (λ k. element_fault (get_or t k nan) ≡ false) c.loop-at.at (c.loop-at.at + 64) c.loop-at.invariant.1 block)
 
 -- the sum is the index in the whole tensor
 in_whole : (c : After-first_fault-found) → let a = c in let t = a.args.tensor.now in a.loop-at.at + c.first_fault-found.result ≡ index_or (tensor_fault t) (length t)
