@@ -47,6 +47,7 @@ pub fn minus_twices(xs: &[f32], terms: &mut [f32])
 }
 
 // c * t by x and g, and a hidden position as it was.
+#[tactic(auto, using(crate::proofs::Marks::infinity_not_nan))]
 fn capped(c: f32, s: f32, x: f32, g: f32) -> f32
     ensures { result ≡ cond (is_hidden s) hidden (mul binary32 c (signed_by x (ratio_of g))) }
 {

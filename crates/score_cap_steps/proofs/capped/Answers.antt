@@ -1,15 +1,11 @@
 -- `score_cap_steps::capped` meets its contract. The code's comparison of a score with minus infinity is the test for a hidden position. Assumes nothing.
 use mathlib.Core.Path.{◌≡◌, refl, sym, ap, ◌∙◌}
 use mathlib.Core.Bool.{Bool, true, false, cond}
-use lib.Ieee.{Float, nan, inf, fin, binary32, neg, mul, eq, of_bits, nan_bits}
+use lib.Ieee.{Float, nan, inf, fin, binary32, neg, mul, eq, of_bits}
 use Rattle.softmax.specs.Lists.{hidden, is_hidden}
 use Rattle.softmax.specs.Cap.{signed_by, ratio_of}
 use Rattle.score_cap_steps.proofs.capped.Goals as goal
 use Rattle.score_cap_steps.proofs.capped.Goals.{Start}
-
-pub float_from_bits-t-8 : goal.float_from_bits-t-8
-unfolding nan_bits
-float_from_bits-t-8 c = tt
 
 -- a float is equal to minus infinity where it is the mark of a hidden position
 chosen : (s y : Float) → cond (eq s hidden) s y ≡ cond (is_hidden s) hidden y
