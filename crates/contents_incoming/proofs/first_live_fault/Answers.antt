@@ -61,45 +61,39 @@ slice_bounds-first_fault_by_blocks-end c = let h = inside (goal.at.slice_bounds-
 
 pub returns-then-found-looked : goal.returns-then-found-looked
 returns-then-found-looked c =
-    let l = c in
-    let a = l in
-    let s = a.args in
+    let s = c.args in
     let t = s.tensor.now in
     let span = s.call.klen * s.unit in
-    let start = a.loop-group.group * span in
-    let end = start + l.live_count.result * s.unit in
+    let start = c.loop-group.group * span in
+    let end = start + c.live_count.result * s.unit in
     let h = inside (goal.at.returns-then-found-looked c).In-loop-group in
     let p = prefix (goal.at.returns-then-found-looked c).After-live_count in
     let n = length_part start end t (omega arith) (omega arith) in
     let f = part_first start end t (omega arith) (omega arith) c.first_fault_by_blocks-found.result (index_found (tensor_fault (part start end t)) c.first_fault_by_blocks-found.ensures (omega arith)) in
     let i = start + c.first_fault_by_blocks-found.result in
-    let looked = in_prefix_lem s.call s.live.now s.heads s.unit a.loop-group.group l.live_count.result l.live_count.ensures i (omega arith) (omega arith) f.inside in
-    rw (first→prefix s.call s.live.now s.heads s.unit t i (omega arith) (rw (looked, f.faulty)) (below_both (Clear s.call s.live.now s.heads s.unit t) start i a.loop-group.invariant.1 (λ k m b. rw (f.before k m b) (and-false (in_prefix s.call s.live.now s.heads s.unit k)))))
+    let looked = in_prefix_lem s.call s.live.now s.heads s.unit c.loop-group.group c.live_count.result c.live_count.ensures i (omega arith) (omega arith) f.inside in
+    rw (first→prefix s.call s.live.now s.heads s.unit t i (omega arith) (rw (looked, f.faulty)) (below_both (Clear s.call s.live.now s.heads s.unit t) start i c.loop-group.invariant.1 (λ k m b. rw (f.before k m b) (and-false (in_prefix s.call s.live.now s.heads s.unit k)))))
 
 pub overflow_add-group : goal.overflow_add-group
 overflow_add-group c = let n = sizes (goal.at.overflow_add-group c).Start in omega arith
 
 pub loop-group-preserved : goal.loop-group-preserved
 loop-group-preserved c =
-    let l = c in
-    let a = l in
-    let s = a.args in
+    let s = c.args in
     let t = s.tensor.now in
     let span = s.call.klen * s.unit in
-    let start = a.loop-group.group * span in
-    let end = start + l.live_count.result * s.unit in
+    let start = c.loop-group.group * span in
+    let end = start + c.live_count.result * s.unit in
     let h = inside (goal.at.loop-group-preserved c).In-loop-group in
     let p = prefix (goal.at.loop-group-preserved c).After-live_count in
     let n = length_part start end t (omega arith) (omega arith) in
     let clear = part_clear start end t (omega arith) (omega arith) (tensor→clear _ (index_none (part start end t) c.first_fault_by_blocks-found.ensures (omega arith))) in
-    let group = group_clear s.call s.live.now s.heads s.unit a.loop-group.group l.live_count.result l.live_count.ensures t clear in
-    (omega arith, λ k b. below_both (Clear s.call s.live.now s.heads s.unit t) start (start + span) a.loop-group.invariant.1 group k (omega (arith, next_group a.loop-group.group span)))
+    let group = group_clear s.call s.live.now s.heads s.unit c.loop-group.group c.live_count.result c.live_count.ensures t clear in
+    (omega arith, λ k b. below_both (Clear s.call s.live.now s.heads s.unit t) start (start + span) c.loop-group.invariant.1 group k (omega (arith, next_group c.loop-group.group span)))
 
 pub returns : goal.returns
 returns c =
-    let a = c in
-    let s = a in
-    let span = s.args.call.klen * s.args.unit in
-    let all : a.loop-group.group ≡ s.args.call.batches * s.args.heads = omega arith in
-    let n : length s.args.tensor.now ≡ a.loop-group.group * span = s.requires.tensor_len ∙ ap (λ (g : ℕ). g * span) (sym all) in
-    rw (clear→prefix s.args.call s.args.live.now s.args.heads s.args.unit s.args.tensor.now (λ k h. a.loop-group.invariant.1 k (omega arith)))
+    let span = c.args.call.klen * c.args.unit in
+    let all : c.loop-group.group ≡ c.args.call.batches * c.args.heads = omega arith in
+    let n : length c.args.tensor.now ≡ c.loop-group.group * span = c.requires.tensor_len ∙ ap (λ (g : ℕ). g * span) (sym all) in
+    rw (clear→prefix c.args.call c.args.live.now c.args.heads c.args.unit c.args.tensor.now (λ k h. c.loop-group.invariant.1 k (omega arith)))
