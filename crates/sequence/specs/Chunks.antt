@@ -1,5 +1,5 @@
 -- Chunks (runs) of a recording: causal cached calls without a mask, each through one of the two entries and on the caches that the last accepted one left; and the history (the book) of the positions that were entered. Definitions only.
-use Rattle.std.specs.Prelude.{List, [], ◌∷◌, ◌++◌, ℕ, suc, Bool, true, false, ◌&&◌, cond, eqb, ℤ, Float, length}
+use Rattle.std.specs.Prelude.{List, [], ◌∷◌, ◌++◌, ℕ, suc, Bool, true, false, ◌&&◌, cond, ℤ, Float, length}
 use Rattle.tensor_laws.specs.Layout.{tabulate}
 use Rattle.call.specs.declared.Call.{Call}
 use Rattle.call.specs.declared.Form.TheVariants.{Cached}
