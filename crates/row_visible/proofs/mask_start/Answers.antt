@@ -16,7 +16,6 @@ use Rattle.row_visible.proofs.mask_start.Goals.{After-repeated_at-row, In_defaul
 pub returns-in-NoMask : goal.returns-in-NoMask
 returns-in-NoMask c = let s = c.args in ap (λ (k : MaskKind). mask_start k s.call s.b s.h s.i) (sym c.in-NoMask.is)
 
-
 -- how large the mask's dimensions and the row's place in them are
 record Bounds (c : After-repeated_at-row) : Type 0 where
   maskh : c.args.call.maskh ≤ 32

@@ -1,0 +1,6 @@
+-- `klaverdomp::klaverdomp_attention_3` meets its contract: the decoded call, the outcome of the entry, and the report of its answer. Assumes nothing.
+use Rattle.interface.proofs.Reported.{returned_is}
+use Rattle.klaverdomp.proofs.klaverdomp_attention_3.Goals as goal
+
+pub returns : goal.returns
+returns c = returned_is c.report-given.result c.attention-answer.result _ _ c.report-given.ensures (rw c.decode-call.ensures at c.attention-answer.ensures)
