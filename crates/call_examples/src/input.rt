@@ -1,5 +1,5 @@
 // What standard input holds: hexadecimal numbers, each with a space or the end of a line after it, the records and tensors that they make, and the labels.
-ghost use Rattle.std.specs.Prelude.{◌≡◌, ◌≤◌, ◌<◌, length, take, IfOk};
+ghost use Rattle.std.specs.Prelude.{◌≡◌, ◌≤◌, ◌<◌, length, take, IfOk, OnErr};
 
 use call::Call;
 use std::io;
@@ -112,9 +112,10 @@ fn element<R: Read>(from: &mut R, tensor: &[f32], given: usize, n: usize) -> io:
     Ok(tensor[n - given])
 }
 
-// A tensor of floats, at the start of the array: its length, how many elements are given, and those. They are repeated up to the length.
+// A tensor of floats, at the start of the array: its length, how many elements are given, and those. They are repeated up to the length. A read that fails leaves the array as long as it was.
 pub fn floats<R: Read>(from: &mut R, tensor: &mut [f32]) -> io::Result<usize>
-    ensures { IfOk result (λ count. (count ≤ length tensor.new) × (count ≡ length (take count tensor.new))) }
+    ensures ok { IfOk result (λ count. (count ≤ length tensor.new) × (count ≡ length (take count tensor.new))) }
+    ensures err { OnErr result (length tensor.new ≡ length tensor.old) }
 {
     let count = lesser(number(from)?, tensor.len());
     let given = number(from)?;
@@ -124,9 +125,10 @@ pub fn floats<R: Read>(from: &mut R, tensor: &mut [f32]) -> io::Result<usize>
     Ok(count)
 }
 
-// The boolean mask, at the start of the array: its length and its bytes.
+// The boolean mask, at the start of the array: its length and its bytes. A read that fails leaves the array as long as it was.
 pub fn bytes<R: Read>(from: &mut R, mask: &mut [u8]) -> io::Result<usize>
-    ensures { IfOk result (λ count. (count ≤ length mask.new) × (count ≡ length (take count mask.new))) }
+    ensures ok { IfOk result (λ count. (count ≤ length mask.new) × (count ≡ length (take count mask.new))) }
+    ensures err { OnErr result (length mask.new ≡ length mask.old) }
 {
     let count = lesser(number(from)?, mask.len());
     for n in 0..count {
@@ -137,7 +139,8 @@ pub fn bytes<R: Read>(from: &mut R, mask: &mut [u8]) -> io::Result<usize>
 
 // The live counts, likewise.
 pub fn counts<R: Read>(from: &mut R, live: &mut [i64]) -> io::Result<usize>
-    ensures { IfOk result (λ count. (count ≤ length live.new) × (count ≡ length (take count live.new))) }
+    ensures ok { IfOk result (λ count. (count ≤ length live.new) × (count ≡ length (take count live.new))) }
+    ensures err { OnErr result (length live.new ≡ length live.old) }
 {
     let count = lesser(number(from)?, live.len());
     for n in 0..count {
