@@ -1,4 +1,4 @@
-// The operator's exported functions: a call record as 18 numbers, a scale and a cap is decoded, the entry is called, and the answer is given back as numbers.
+// The operator's functions as `klaverdomp_c` exports them: a call record as 18 numbers, a scale and a cap is decoded, the entry is called, and the answer is given back as numbers.
 // Every function takes any arguments. The number at the end of a name is the edition of the binary interface.
 #![tactic(auto)]
 
@@ -19,8 +19,7 @@ use exponential::Exponential;
 use tables::{DefaultScale, PowerEntry};
 
 // Attention. The result is 0 for done and else the number of the refusal; the four numbers behind it are always written.
-#[unsafe(no_mangle)]
-pub extern "C" fn klaverdomp_attention_3<'a>(
+pub fn klaverdomp_attention_3<'a>(
     numbers: &[u64],
     scale: f32,
     softcap: f32,
@@ -70,8 +69,7 @@ pub extern "C" fn klaverdomp_attention_3<'a>(
 }
 
 // A step: attention for the records of the step profile, which is lent no masks, live counts and scores. Any other record is refusal 10.
-#[unsafe(no_mangle)]
-pub extern "C" fn klaverdomp_step_3<'a>(
+pub fn klaverdomp_step_3<'a>(
     numbers: &[u64],
     scale: f32,
     softcap: f32,
@@ -113,8 +111,7 @@ pub extern "C" fn klaverdomp_step_3<'a>(
 }
 
 // E(d): 1 and the value, or 0 and +0 where it has none.
-#[unsafe(no_mangle)]
-pub extern "C" fn klaverdomp_exp_neg_1(d: f32, value: &mut f32) -> u32
+pub fn klaverdomp_exp_neg_1(d: f32, value: &mut f32) -> u32
     ensures { told result value.new ≡ exponential_told (exp_neg_of d) }
 {
     match exponential_number::exp_neg(d) {
@@ -130,16 +127,14 @@ pub extern "C" fn klaverdomp_exp_neg_1(d: f32, value: &mut f32) -> u32
 }
 
 // Each element s of the row becomes E(largest - s), and +0 where that has no value.
-#[unsafe(no_mangle)]
-pub extern "C" fn klaverdomp_exp_neg_row_1(row: &mut [f32], largest: f32)
+pub fn klaverdomp_exp_neg_row_1(row: &mut [f32], largest: f32)
     ensures { row.new ≡ exp_neg_row_of largest row.old }
 {
     exponential_row::exp_neg_row(row, largest);
 }
 
 // The entry of the power table at an index below 256: 1 and the value, or 0 and +0 at any other.
-#[unsafe(no_mangle)]
-pub extern "C" fn klaverdomp_power_entry_1(index: u64, value: &mut f32) -> u32
+pub fn klaverdomp_power_entry_1(index: u64, value: &mut f32) -> u32
     ensures { told result value.new ≡ power_told (power_entry_of index) }
 {
     match tables::power_entry(index as usize) {
@@ -155,8 +150,7 @@ pub extern "C" fn klaverdomp_power_entry_1(index: u64, value: &mut f32) -> u32
 }
 
 // The default scale of a head size from 1 to 256: 1 and the value, or 0 and +0 of any other.
-#[unsafe(no_mangle)]
-pub extern "C" fn klaverdomp_default_scale_1(size: u64, value: &mut f32) -> u32
+pub fn klaverdomp_default_scale_1(size: u64, value: &mut f32) -> u32
     ensures { told result value.new ≡ scale_told (default_scale_of size) }
 {
     match tables::default_scale(size as usize) {

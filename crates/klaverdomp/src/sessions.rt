@@ -1,4 +1,4 @@
-// The exported functions of saved sessions. Every function takes any arguments; every number behind a reference is written, and is 0 where there is nothing to tell.
+// The functions of saved sessions, as `klaverdomp_c` exports them. Every function takes any arguments; every number behind a reference is written, and is 0 where there is nothing to tell.
 ghost use Rattle.std.specs.Prelude.{◌≡◌};
 ghost use Rattle.session_file.specs.Reader.{read_of, load_of};
 ghost use Rattle.session_file.specs.Writer.{begin_of, append_of};
@@ -8,8 +8,7 @@ ghost use Rattle.session_interface.specs.Sessions.{loaded_with, loaded_report, s
 use session_file::Sizes;
 
 // What stands in a file. The result is 0, with its sizes, how many positions are whole and how many bytes these have, or the number of the refusal, with its place.
-#[unsafe(no_mangle)]
-pub extern "C" fn klaverdomp_session_inspect_1(
+pub fn klaverdomp_session_inspect_1(
     file: &[u8],
     batches: &mut u64,
     kvheads: &mut u64,
@@ -33,8 +32,7 @@ pub extern "C" fn klaverdomp_session_inspect_1(
 }
 
 // The same, with the positions in caches of exactly their lengths.
-#[unsafe(no_mangle)]
-pub extern "C" fn klaverdomp_session_load_1(
+pub fn klaverdomp_session_load_1(
     file: &[u8],
     keys: &mut [f32],
     values: &mut [f32],
@@ -61,8 +59,7 @@ pub extern "C" fn klaverdomp_session_load_1(
 }
 
 // Begins a file. The result is 0, with 0 positions and the bytes of the first record, or the number of the refusal.
-#[unsafe(no_mangle)]
-pub extern "C" fn klaverdomp_session_begin_1(
+pub fn klaverdomp_session_begin_1(
     buffer: &mut [u8],
     batches: u64,
     kvheads: u64,
@@ -89,8 +86,7 @@ pub extern "C" fn klaverdomp_session_begin_1(
 }
 
 // Adds positions to the file that is the first `from` bytes of the buffer. The result is 0, with how many positions stand whole and how many bytes the file has, or the number of the refusal, with its place.
-#[unsafe(no_mangle)]
-pub extern "C" fn klaverdomp_session_append_1(
+pub fn klaverdomp_session_append_1(
     buffer: &mut [u8],
     from: u64,
     count: u64,

@@ -1,7 +1,5 @@
 -- `klaverdomp::klaverdomp_default_scale_1` meets its contract: each of the two answers is told as the definition says. Assumes nothing.
-use mathlib.Core.Path.{◌≡◌, sym, ◌∙◌}
-use Rattle.tables.specs.Scale.{default_scale_of}
-use Rattle.tables.specs.declared.DefaultScale.TheVariants.{ScaleIs, NoScale}
+use mathlib.Core.Path.{sym, ◌∙◌}
 use lib.Ieee.{of_bits}
 use Rattle.klaverdomp.proofs.klaverdomp_default_scale_1.Goals as goal
 

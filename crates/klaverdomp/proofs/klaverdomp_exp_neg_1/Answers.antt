@@ -1,7 +1,5 @@
 -- `klaverdomp::klaverdomp_exp_neg_1` meets its contract: each of the two answers is told as the definition says. Assumes nothing.
-use mathlib.Core.Path.{◌≡◌, sym, ◌∙◌}
-use Rattle.exponential.specs.ExpNeg.{exp_neg_of}
-use Rattle.exponential.specs.declared.Exponential.TheVariants.{Value, NoValue}
+use mathlib.Core.Path.{sym, ◌∙◌}
 use lib.Ieee.{of_bits}
 use Rattle.klaverdomp.proofs.klaverdomp_exp_neg_1.Goals as goal
 

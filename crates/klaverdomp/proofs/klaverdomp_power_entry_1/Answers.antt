@@ -1,7 +1,5 @@
 -- `klaverdomp::klaverdomp_power_entry_1` meets its contract: each of the two answers is told as the definition says. Assumes nothing.
-use mathlib.Core.Path.{◌≡◌, sym, ◌∙◌}
-use Rattle.tables.specs.Power.{power_entry_of}
-use Rattle.tables.specs.declared.PowerEntry.TheVariants.{Entry, NoEntry}
+use mathlib.Core.Path.{sym, ◌∙◌}
 use lib.Ieee.{of_bits}
 use Rattle.klaverdomp.proofs.klaverdomp_power_entry_1.Goals as goal
 
