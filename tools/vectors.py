@@ -330,6 +330,7 @@ use mathlib.Core.Bool.{true, false}
 use lib.IntN.{ℤ, pos, negsuc}
 use lib.ListN.{replicate}
 use lib.Ieee.{Float, nan, inf, fin, binary32, of_bits}
+use Rattle.std.specs.Prelude.{Option, Some, None, Err}
 use Rattle.exponential.specs.ExpNeg.{one}
 use Rattle.softmax.specs.Cap.{capped_where}
 use Rattle.call.specs.declared.Call.{Call}
@@ -339,9 +340,6 @@ use Rattle.call.specs.declared.MaskKind.{MaskKind}
 use Rattle.call.specs.declared.MaskKind.TheVariants.{NoMask, Boolean, FloatMask}
 use Rattle.call.specs.declared.Scale.{Scale}
 use Rattle.call.specs.declared.Scale.TheVariants.{Absent, Given}
-use Rattle.call.specs.declared.ScoreMode.{ScoreMode}
-use Rattle.call.specs.declared.ScoreMode.TheVariants.{NoScores, Mode}
-use Rattle.call.specs.declared.Answer.TheVariants.{NotDone}
 use Rattle.call.specs.declared.Refusal.{Refusal}
 use Rattle.call.specs.declared.Refusal.TheVariants.{Limits, HeadGroups, Settings, MaskShape, InputLength, OutputLength, LiveCount, MaskCell, Element}
 use Rattle.call.specs.Parts.{call_with}
@@ -351,7 +349,7 @@ use Rattle.attention.specs.Calls.{tensors, done}
 use Rattle.attention.specs.Table.{Claim, outcome, under_cap, AllHold}
 
 -- the cap's bits; rank and causal flag; B, Hq, Hkv; Sq, Sk, P; D, Dv; the mask's dimensions
-unfoldable call : Form → MaskKind → Scale → ScoreMode → (softcap rank causal batches qheads kvheads qlen klen past size vsize maskb maskh maskq maskk : ℕ) → Call
+unfoldable call : Form → MaskKind → Scale → Option ℕ → (softcap rank causal batches qheads kvheads qlen klen past size vsize maskb maskh maskq maskk : ℕ) → Call
 unfolding of_bits
 call form mask scale mode softcap rank causal batches qheads kvheads qlen klen past size vsize maskb maskh maskq maskk = call_with form mask scale (of_bits binary32 softcap) mode rank causal batches qheads kvheads qlen klen past size vsize maskb maskh maskq maskk
 
@@ -389,7 +387,7 @@ accepted c x y total masked output present_key present_value scores work =
 
 -- the call is refused, and the tensors stay as they were lent
 abbrev refused : Call → Inputs → Outputs → Refusal → Claim
-refused c x y r = outcome c x y (record { answer = NotDone r; tensors = y })
+refused c x y r = outcome c x y (record { answer = Err r; tensors = y })
 """
 
 DOT_HEADER = """-- Dot products of rows of 1 to 18 elements: the definition gives them the bits of a reference written from the rules. Floats are f32 bits.
@@ -448,7 +446,7 @@ def claim_text(r, inputs, outputs):
     """A claim that the call has the outcome that the reference gives it, a line to each of its parts."""
     (number, tensor, index, total, masked_rows), made = call(r, inputs, outputs)
     scale = "Absent" if r.scale is None else f"(given {bits_text(r.scale)})"
-    mode = "NoScores" if r.score_mode is None else f"(Mode {r.score_mode})"
+    mode = "None" if r.score_mode is None else f"(Some {r.score_mode})"
     numbers = (bits_text(r.softcap), r.rank, r.causal, r.batch, r.query_heads, r.key_heads, r.query_length, r.key_length,
                r.past_length, r.head_size, r.value_size, *r.mask_dims)
     if number == 0:

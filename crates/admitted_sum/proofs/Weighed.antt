@@ -1,30 +1,22 @@
 -- The weighted sum over the seen positions, one run at a time: a run of seen positions is accumulated, and the position that stops it adds nothing.
-use mathlib.Core.Path.{◌≡◌, sym, ap, ◌∙◌}
-use mathlib.Core.Bool.{Bool, true, false, not}
+use mathlib.Core.Path.{◌≡◌, refl, sym, ap, ◌∙◌}
+use mathlib.Core.Bool.{Bool, true, false}
 use mathlib.Core.List.{List}
 use Prim.Native.Nat.{ℕ, zero, suc, ◌+◌, ◌*◌, ◌-◌, ◌≤◌, ◌<◌, min}
-use native.Mathlib.Nat.{le_refl, add-zero, add-suc, add-mul, min-eq_left, min-eq_right}
-use native.Mathlib.Numerals.{add-one}
+use native.Mathlib.Nat.{le_refl, add-zero, add-suc, add-mul}
 use native.Mathlib.Omega.{arith}
-use lib.Dec.{T, ltb, ltb→lt, nltb→le}
+use native.Mathlib.Decide.{dec_lt}
 use lib.ListN.{length, take, drop}
 use lib.Seq.{get_or-take, get_or-drop}
 use lib.Ieee.{Float, nan, binary32, add, mul}
 use borrow.Rule.Slice.PartMut.{mid_len}
 use Rattle.tensor_laws.specs.Layout.{tabulate}
-use Rattle.tensor_laws.proofs.Tabulate.{length_tabulate, get_or_tabulate, tabulate_ext, tabulate_get_d}
-use Rattle.softmax.specs.Row.{add_where}
+use Rattle.tensor_laws.proofs.Tabulate.{length_tabulate, get_or_tabulate, tabulate_ext}
 use Rattle.softmax.specs.Lists.{element_of, accumulated_of, weighted_rows_of}
-use Rattle.call.specs.declared.MaskKind.{MaskKind}
-use Rattle.attention.specs.Admission.{repeated}
-use Rattle.admitted_sum.specs.Sums.{admitted_by, RunEnd, added_of, added_row_of}
+use Rattle.admitted_sum.specs.Sums.{RunEnd, added_of, added_row_of}
 use Rattle.tensor_laws.proofs.Tails.{part_of, get_or_part}
 
 -- ---- the end of a run
-
--- the mask admits position k
-abbrev pub admits_at : MaskKind → List ℕ → List Float → (at width k : ℕ) → Bool
-admits_at kind bytes cells at width k = admitted_by kind bytes cells (at + repeated width k)
 
 -- the end of a run of positions that are counted from `from` on
 pub run_from : (sees : ℕ → Bool) (from j n r : ℕ) → RunEnd sees (from + j) (from + n) r → RunEnd (λ k. sees (from + k)) j n (r - from)
@@ -43,11 +35,11 @@ run_from sees from j n r e =
 module _ (sees : ℕ → Bool) (weight value : ℕ → Float) (x : Float) where
   added_seen : (j : ℕ) → sees j ≡ true → added_of (suc j) sees weight value x ≡ add binary32 (added_of j sees weight value x) (mul binary32 (weight j) (value j))
   unfolding added_of
-  added_seen j h = ap (λ (b : Bool). add_where b (added_of j sees weight value x) (mul binary32 (weight j) (value j))) h
+  added_seen j h = rw h refl
 
   added_hidden : (j : ℕ) → sees j ≡ false → added_of (suc j) sees weight value x ≡ added_of j sees weight value x
   unfolding added_of
-  added_hidden j h = ap (λ (b : Bool). add_where b (added_of j sees weight value x) (mul binary32 (weight j) (value j))) h
+  added_hidden j h = rw h refl
 
   -- a run of n seen positions from j on is accumulated onto the first j positions
   added_run : (j n : ℕ) (w v : ℕ → Float) → ((k : ℕ) → k < n → sees (j + k) ≡ true) → ((k : ℕ) → k < n → w k ≡ weight (j + k)) → ((k : ℕ) → k < n → v k ≡ value (j + k)) → accumulated_of n w v (added_of j sees weight value x) ≡ added_of (j + n) sees weight value x
@@ -68,15 +60,6 @@ module _ (sees : ℕ → Bool) (weights values : List Float) (stride : ℕ) (out
   -- its element of a column
   abbrev column_to : ℕ → ℕ → Float
   column_to n c = added_of n sees (element_of weights) (λ j. element_of values (j * stride + c)) (element_of out c)
-
-  -- before the first position the row is as it was
-  pub weighed_none : weighed_to 0 ≡ out
-  unfolding added_row_of added_of
-  weighed_none = tabulate_get_d out nan
-
-  pub length_weighed : (n : ℕ) → length (weighed_to n) ≡ length out
-  unfolding added_row_of
-  length_weighed n = length_tabulate (length out) (column_to n)
 
   module _ (j e : ℕ) (h : j ≤ e) (g : e ≤ length weights) (seen : (k : ℕ) → j ≤ k → k < e → sees k ≡ true) where
     -- the weights of the run from j to e
@@ -109,8 +92,8 @@ module _ (sees : ℕ → Bool) (weights values : List Float) (stride : ℕ) (out
 
   -- nor does the position that stops a run, where there is one
   pub weighed_stop : (e n : ℕ) → e ≤ n → (e < n → sees e ≡ false) → weighed_to e ≡ weighed_to (min (e + 1) n)
-  weighed_stop e n h stop = go (ltb e n) (ltb→lt e n) (nltb→le e n)
+  weighed_stop e n h stop = go (dec_lt e n)
     where
-      go : (t : Bool) → (T t → e < n) → (T (not t) → n ≤ e) → weighed_to e ≡ weighed_to (min (e + 1) n)
-      go true p q = let l : e < n = p tt in sym (weighed_hidden e (stop l)) ∙ ap weighed_to (sym (min-eq_left {n = e + 1} {m = n} (omega arith) ∙ add-one e))
-      go false p q = let l : n ≤ e = q tt in ap weighed_to (sym (min-eq_right {n = n} {m = e + 1} (omega arith) ∙ omega arith))
+      go : Dec (e < n) → weighed_to e ≡ weighed_to (min (e + 1) n)
+      go (yes l) = sym (weighed_hidden e (stop l)) ∙ ap weighed_to (omega arith)
+      go (no p) = ap weighed_to (omega arith)

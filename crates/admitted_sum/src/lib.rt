@@ -4,77 +4,67 @@
 ghost use Rattle.std.specs.Prelude.{◌≡◌, ℕ, ◌+◌, ◌*◌, ◌≤◌, ◌<◌, length};
 ghost use Rattle.softmax.specs.Lists.{element_of};
 ghost use Rattle.attention.specs.Admission.{repeated};
-ghost use Rattle.admitted_sum.specs.Sums.{MaskHas, admitted_by, RunEnd, added_row_of};
+ghost use Rattle.admitted_sum.specs.Sums.{RunEnd, added_row_of};
+ghost use Rattle.admitted_sum.specs.Masks.{HasCell, HasCells, admits};
 
 use call::MaskKind;
+use row_steps::RowMask;
 
-// Whether the mask admits the key whose cell stands at an index.
-fn admitted(kind: MaskKind, bytes: &[u8], cells: &[f32], at: usize) -> bool
-    requires { MaskHas kind (length bytes.now) (length cells.now) at }
-    ensures { result ≡ admitted_by kind bytes.now cells.now at }
+// Where the mask's cell of a position stands.
+fn cell_at(mask: RowMask<'_>, j: usize) -> usize
+    requires { mask.at + j < 0x100000000 }
+    ensures { result ≡ mask.entry.at + repeated mask.entry.width j }
 {
-    match kind {
-        MaskKind::NoMask => true,
-        MaskKind::Boolean => bytes[at] != 0,
-        MaskKind::FloatMask => cells[at] != -f32::from_bits(0x7f800000),
+    if mask.width == 1 {
+        mask.at
+    } else {
+        mask.at + j
     }
 }
 
-// Where the mask's cell of a position stands, from that of position 0; a width of 1 is repeated.
-fn cell_at(at: usize, width: usize, j: usize) -> usize
-    requires { at + j < 0x100000000 }
-    ensures { result ≡ at + repeated width j }
+// Whether the mask admits the key of a position.
+fn admitted(mask: RowMask<'_>, j: usize) -> bool
+    requires room { mask.at + j < 0x100000000 }
+    requires has { HasCell mask j }
+    ensures { result ≡ admits mask.entry j }
 {
-    if width == 1 { at } else { at + j }
+    match mask.kind {
+        MaskKind::NoMask => true,
+        MaskKind::Boolean => mask.bytes[cell_at(mask, j)] != 0,
+        MaskKind::FloatMask => mask.cells[cell_at(mask, j)] != -f32::from_bits(0x7f800000),
+    }
 }
 
 // The end of the run of admitted positions that starts at j, among n.
-fn run_end(
-    kind: MaskKind,
-    bytes: &[u8],
-    cells: &[f32],
-    at: usize,
-    width: usize,
-    j: usize,
-    n: usize,
-) -> usize
-    requires { (j ≤ n) × (at + n < 0x100000000) × ((k : ℕ) → k < n → MaskHas kind (length bytes.now) (length cells.now) (at + repeated width k)) }
-    ensures { RunEnd (λ k. admitted_by kind bytes.now cells.now (at + repeated width k)) j n result }
+fn run_end(mask: RowMask<'_>, j: usize, n: usize) -> usize
+    requires { (j ≤ n) × HasCells mask n }
+    ensures { RunEnd (admits mask.entry) j n result }
 {
-    if let MaskKind::NoMask = kind {
+    if let MaskKind::NoMask = mask.kind {
         return n;
     }
-    let mut e = j;
-    while e < n {
-        if !admitted(kind, bytes, cells, cell_at(at, width, e)) {
-            return e;
-        }
-        e += 1;
-    }
-    e
+    (j..n).find(|&e| !admitted(mask, e)).unwrap_or(n)
 }
 
 // The output row with the weighted values of the admitted positions added; position j of those given is position from + j of the row.
 pub fn weigh_admitted(
-    kind: MaskKind,
-    bytes: &[u8],
-    cells: &[f32],
-    at: usize,
-    width: usize,
+    mask: RowMask<'_>,
     from: usize,
     weights: &[f32],
     values: &[f32],
     stride: usize,
     out: &mut [f32],
 )
-    requires weights_bound { (at + from + length weights.now < 0x100000000) × ((k : ℕ) → k < from + length weights.now → MaskHas kind (length bytes.now) (length cells.now) (at + repeated width k)) }
+    requires weights_bound { HasCells mask (from + length weights.now) }
     requires by_index { (j : ℕ) → j < length weights.now → j * stride + length out.old ≤ length values.now }
-    ensures { out.new ≡ added_row_of (length weights.now) (λ j. admitted_by kind bytes.now cells.now (at + repeated width (from + j))) (element_of weights.now) (λ j k. element_of values.now (j * stride + k)) out.old }
+    ensures { out.new ≡ added_row_of (length weights.now) (λ j. admits mask.entry (from + j)) (element_of weights.now) (λ j k. element_of values.now (j * stride + k)) out.old }
 {
     let n = weights.len();
+
+    // No `for`: the next run starts behind the position that stopped this one.
     let mut j = 0;
     while j < n {
-        let e = run_end(kind, bytes, cells, at, width, from + j, from + n) - from;
+        let e = run_end(mask, from + j, from + n) - from;
         let start = j * stride;
         weighted_sum::weighted_rows(&weights[j..e], &values[start..], stride, out);
         j = e + 1;

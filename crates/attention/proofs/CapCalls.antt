@@ -1,4 +1,5 @@
 -- Calls with a cap of 2, by computation: what each mode shows, with a hidden key and with a float mask. The bits that are not worked out by hand are those that a reference written from the rules gives. Assumes nothing.
+use Rattle.std.specs.Prelude.{Some}
 use mathlib.Core.Path.{◌≡◌, refl}
 use mathlib.Core.List.{[], ◌∷◌}
 use Prim.Native.Nat.{ℕ}
@@ -8,7 +9,6 @@ use Rattle.softmax.specs.Lists.{hidden}
 use Rattle.call.specs.declared.Call.{Call}
 use Rattle.call.specs.declared.Form.TheVariants.{Plain}
 use Rattle.call.specs.declared.MaskKind.TheVariants.{Boolean, FloatMask}
-use Rattle.call.specs.declared.ScoreMode.TheVariants.{Mode}
 use Rattle.call.specs.Tensors.{Inputs, Outputs, inputs_of}
 use Rattle.call.proofs.CapEdges.{with_cap}
 use Rattle.attention.specs.Outcomes.{Outcome, attention_of}
@@ -17,14 +17,14 @@ use Rattle.attention.proofs.LayoutCalls.{two, three, four}
 
 -- q 1, keys 3 1, values 2 4: the second key is hidden
 abbrev pub masked : ℕ → Call
-masked mode = with_cap two (small Plain Boolean (Mode mode) 0 0 1 2)
+masked mode = with_cap two (small Plain Boolean (Some mode) 0 0 1 2)
 
 abbrev pub masked_inputs : Inputs
 masked_inputs = lending (one ∷ []) (three ∷ one ∷ []) (two ∷ four ∷ []) (1 ∷ 0 ∷ [])
 
 -- the same with the cells -4 and 1: the scores after the mask are -1 and 2
 abbrev pub added : ℕ → Call
-added mode = with_cap two (small Plain FloatMask (Mode mode) 0 0 1 2)
+added mode = with_cap two (small Plain FloatMask (Some mode) 0 0 1 2)
 
 abbrev pub added_inputs : Float → Inputs
 added_inputs cell = inputs_of (one ∷ []) (three ∷ one ∷ []) (two ∷ four ∷ []) [] (cell ∷ one ∷ []) [] [] []

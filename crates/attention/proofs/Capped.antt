@@ -1,4 +1,5 @@
 -- The cap of an accepted call: a score under it never exceeds it in magnitude, E is asked only where it has a value, and a cap of 0 of either sign is allowed and leaves every score. Assumes nothing.
+use Rattle.std.specs.Prelude.{Ok}
 use mathlib.Core.Path.{◌≡◌, subst, sym}
 use Prim.Native.Nat.{ℕ, ◌<◌}
 use mathlib.Core.Bool.{true, false}
@@ -14,7 +15,6 @@ use Rattle.softmax.specs.Cap.{twice_of}
 use Rattle.softmax.proofs.Bounds.{bounded, element_bound}
 use Rattle.softmax.proofs.Cap.{capped_bounded, with_cap_lem, no_cap, cap_asked_where_valued}
 use Rattle.call.specs.declared.Call.{Call}
-use Rattle.call.specs.declared.Verdict.TheVariants.{Accepted}
 use Rattle.call.specs.Limits.{cap_allowed}
 use Rattle.call.specs.Tensors.{Inputs, Outputs}
 use Rattle.call.specs.Refusals.{verdict_of}
@@ -32,7 +32,7 @@ above_plus (lib.Ieee.inf _) f h = elim f [ ]
 above_plus (fin true m e) f h = absurd (unfold lt in h)
 above_plus (fin false m e) f h = tt
 
-module _ (c : Call) (x : Inputs) (y : Outputs) (accepted : verdict_of c x y ≡ Accepted) (capped : eq c.softcap plus_zero ≡ false) where
+module _ (c : Call) (x : Inputs) (y : Outputs) (accepted : verdict_of c x y ≡ Ok tt) (capped : eq c.softcap plus_zero ≡ false) where
   a : Accepts c x y
   a = verdict→accepts c x y accepted
 

@@ -1,4 +1,5 @@
 -- A record that an entry takes has the general entry's outcome there, and any other is refusal 10 with every tensor as it was lent. A call that is lent no scores leaves none. Assumes nothing.
+use Rattle.std.specs.Prelude.{Err}
 use mathlib.Core.Path.{◌≡◌, refl, sym, ap, ◌∙◌}
 use mathlib.Core.List.{List, []}
 use mathlib.Core.Bool.{true, false, true≢false}
@@ -6,8 +7,7 @@ use lib.Ieee.{Float}
 use lib.ListN.{length}
 use Rattle.tensor_laws.proofs.Tabulate.{none_long}
 use Rattle.call.specs.declared.Call.{Call}
-use Rattle.call.specs.declared.Answer.{Answer}
-use Rattle.call.specs.declared.Answer.TheVariants.{NotDone}
+use Rattle.call.specs.Answers.{Answer}
 use Rattle.call.specs.declared.Refusal.TheVariants.{Profile}
 use Rattle.call.specs.Tensors.{Inputs, Outputs, outputs_of}
 use Rattle.call.specs.Profile.{Entry, general, step, profile_holds, takes}
@@ -21,7 +21,7 @@ module _ (c : Call) (x : Inputs) (y : Outputs) where
   unfolding step_of
   step_profile h = rw h
 
-  pub step_other : profile_holds c ≡ false → step_of c x y ≡ outcome_of (NotDone Profile) y
+  pub step_other : profile_holds c ≡ false → step_of c x y ≡ outcome_of (Err Profile) y
   unfolding step_of
   step_other h = rw h
 
@@ -30,7 +30,7 @@ module _ (c : Call) (x : Inputs) (y : Outputs) where
   taken_outcome general h = refl
   taken_outcome step h = step_profile h
 
-  pub not_taken_outcome : (e : Entry) → takes e c ≡ false → outcome_at e c x y ≡ outcome_of (NotDone Profile) y
+  pub not_taken_outcome : (e : Entry) → takes e c ≡ false → outcome_at e c x y ≡ outcome_of (Err Profile) y
   not_taken_outcome general h = absurd (true≢false h)
   not_taken_outcome step h = step_other h
 

@@ -1,4 +1,5 @@
 -- What an accepted call says of the elements that the formula reads: each is a number of magnitude at most 65,536, the scale is from 0 to 1,024, and a query head's key head exists. Assumes nothing.
+use Rattle.std.specs.Prelude.{Option, None}
 use mathlib.Core.Path.{◌≡◌, refl, sym, ap, ◌∙◌, subst}
 use mathlib.Core.List.{List}
 use Prim.Native.Nat.{ℕ, ◌+◌, ◌-◌, ◌*◌, ◌/◌, ◌%◌, ◌≤◌, ◌<◌}
@@ -16,7 +17,6 @@ use Rattle.float_laws.proofs.Order.{lt→le, le_trans}
 use Rattle.tensor_laws.specs.Layout.{slot, batch_at, position_at}
 use Rattle.tensor_laws.proofs.Slots.{batch_slot, position_slot, left_factor_pos}
 use Rattle.tensor_laws.proofs.Cells.{index_lt}
-use Rattle.tables.specs.declared.DefaultScale.{DefaultScale}
 use Rattle.tables.specs.Scale.{default_scale_of}
 use Rattle.tables.proofs.Scale.{default_scale_bounds}
 use Rattle.exponential.specs.ExpNeg.{plus_zero, one}
@@ -30,7 +30,7 @@ use Rattle.call.specs.declared.Scale.TheVariants.{Absent, Given}
 use Rattle.call.specs.Tensors.{Inputs, Outputs}
 use Rattle.call.specs.Limits.{groups_hold, total_of, past_allowed, scale_allowed}
 use Rattle.call.specs.Lengths.{in_cached, in_counted}
-use Rattle.call.specs.Contents.{nothing, count_fault, live_in, live_of, tensor_fault, looked_at, incoming_fault}
+use Rattle.call.specs.Contents.{count_fault, live_in, live_of, tensor_fault, looked_at, incoming_fault}
 use Rattle.call.proofs.Clear.{live→clear, element→bounded, tensor→clear, incoming→looked, count_most}
 use Rattle.call.proofs.Accepted.{Accepts}
 use Rattle.call.proofs.Facts.{holds, limits→facts, past_allowed_lem, groups→multiple, settings→facts, fit→lengths}
@@ -39,10 +39,10 @@ use Rattle.attention.specs.Formula.{default_or, scale_where, effective_scale}
 
 -- ---- what a search that finds nothing says of an element
 
-tensor_bounded : (t : List Float) → tensor_fault t ≡ nothing → (i : ℕ) → i < length t → T (bounded element_bound (element_of t i))
+tensor_bounded : (t : List Float) → tensor_fault t ≡ None → (i : ℕ) → i < length t → T (bounded element_bound (element_of t i))
 tensor_bounded t e i h = element→bounded (element_of t i) (tensor→clear t e i h)
 
-incoming_bounded : (c : Call) (live : List ℤ) (size : ℕ) (t : List Float) → incoming_fault c live size t ≡ nothing → (i : ℕ) → i < length t → looked_at c live size i ≡ true → T (bounded element_bound (element_of t i))
+incoming_bounded : (c : Call) (live : List ℤ) (size : ℕ) (t : List Float) → incoming_fault c live size t ≡ None → (i : ℕ) → i < length t → looked_at c live size i ≡ true → T (bounded element_bound (element_of t i))
 incoming_bounded c live size t e i h l = element→bounded (element_of t i) (incoming→looked c live size t e i h l)
 
 -- ---- the live counts
@@ -94,7 +94,7 @@ module _ {c : Call} {x : Inputs} {y : Outputs} (a : Accepts c x y) where
 
   -- an element of a position below the live count is within 65,536
   position_bounded : (past incoming : List Float) (size : ℕ) → length past ≡ in_cached c.form (c.batches * c.kvheads * c.past * size) → length incoming ≡ c.batches * c.kvheads * c.klen * size
-      → tensor_fault past ≡ nothing → incoming_fault c x.live size incoming ≡ nothing
+      → tensor_fault past ≡ None → incoming_fault c x.live size incoming ≡ None
       → (b g j k : ℕ) → b < c.batches → g < c.kvheads → j < live_of c x.live b → k < size → T (bounded element_bound (position_cell c past incoming size b g j k))
   position_bounded past incoming size p q u v b g j k hb hg hj hk = go (ltb j c.past) (ltb→lt j c.past) (nltb→le j c.past)
     where
@@ -130,7 +130,7 @@ module _ {c : Call} {x : Inputs} {y : Outputs} (a : Accepts c x y) where
 scale_where_bounded : (s : Scale) (size : ℕ) → scale_allowed s ≡ true → 1 ≤ size → size ≤ 256 → T (le plus_zero (scale_where s size)) × T (le (scale_where s size) scale_bound)
 scale_where_bounded Absent size e p q =
     let (s, d, u, v) = default_scale_bounds size p q in
-    let r : default_or (default_scale_of size) plus_zero ≡ s = ap (λ (z : DefaultScale). default_or z plus_zero) d in
+    let r : default_or (default_scale_of size) plus_zero ≡ s = ap (λ (z : Option Float). default_or z plus_zero) d in
     (subst (λ (z : Float). T (le plus_zero z)) (sym r) (lt→le plus_zero s u), subst (λ (z : Float). T (le z scale_bound)) (sym r) (le_trans s one scale_bound v (unfold le in tt)))
 scale_where_bounded (Given s) size e p q = (lt→le plus_zero s (and_l (lt plus_zero s) (le s scale_bound) (holds e)), and_r (lt plus_zero s) (le s scale_bound) (holds e))
 

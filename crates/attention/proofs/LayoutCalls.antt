@@ -1,4 +1,5 @@
 -- Numbers, calls and tensors of the further examples. Assumes nothing.
+use Rattle.std.specs.Prelude.{Option, None}
 use mathlib.Core.List.{List, [], ◌∷◌}
 use Prim.Native.Nat.{ℕ}
 use mathlib.Core.Bool.{true, false}
@@ -12,8 +13,6 @@ use Rattle.call.specs.declared.MaskKind.{MaskKind}
 use Rattle.call.specs.declared.MaskKind.TheVariants.{NoMask}
 use Rattle.call.specs.declared.Scale.{Scale}
 use Rattle.call.specs.declared.Scale.TheVariants.{Given}
-use Rattle.call.specs.declared.ScoreMode.{ScoreMode}
-use Rattle.call.specs.declared.ScoreMode.TheVariants.{NoScores}
 use Rattle.call.specs.Parts.{call_with}
 use Rattle.call.specs.Tensors.{Inputs, Outputs}
 use Rattle.attention.specs.Outcomes.{Outcome}
@@ -96,20 +95,20 @@ minus_tiny = fin true 1 (negsuc 148)
 -- ---- calls
 
 -- one batch without a mask, D = 1, scale 1: the form, the mode, the rank, the causal flag, Hq, Hkv, Sq, Sk, P and Dv
-abbrev pub heads : Form → ScoreMode → (rank causal qheads kvheads qlen klen past vsize : ℕ) → Call
+abbrev pub heads : Form → Option ℕ → (rank causal qheads kvheads qlen klen past vsize : ℕ) → Call
 heads form mode rank causal qheads kvheads qlen klen past vsize = call_with form NoMask (Given one) plus_zero mode rank causal 1 qheads kvheads qlen klen past 1 vsize 1 1 1 1
 
 -- two query heads over one key head, two queries and two keys, D = Dv = 1, scale 1: the batches, and the mask's kind and dimensions
 abbrev pub masked : MaskKind → (batches maskb maskh maskq maskk : ℕ) → Call
-masked kind batches maskb maskh maskq maskk = call_with Plain kind (Given one) plus_zero NoScores 4 0 batches 2 1 2 2 0 1 1 maskb maskh maskq maskk
+masked kind batches maskb maskh maskq maskk = call_with Plain kind (Given one) plus_zero None 4 0 batches 2 1 2 2 0 1 1 maskb maskh maskq maskk
 
 -- one query and one key, rank 4, Dv = 1: the mask kind, the scale, the mode and D
-abbrev pub scaled : MaskKind → Scale → ScoreMode → ℕ → Call
+abbrev pub scaled : MaskKind → Scale → Option ℕ → ℕ → Call
 scaled kind scale mode size = call_with Plain kind scale plus_zero mode 4 0 1 1 1 1 1 0 size 1 1 1 1 1
 
 -- two batches of two queries and one key, counted
 abbrev pub batched : Call
-batched = call_with Counted NoMask (Given one) plus_zero NoScores 4 0 2 1 1 2 1 0 1 1 1 1 1 1
+batched = call_with Counted NoMask (Given one) plus_zero None 4 0 2 1 1 2 1 0 1 1 1 1 1 1
 
 -- ---- what is lent
 

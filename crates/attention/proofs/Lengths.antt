@@ -1,4 +1,5 @@
 -- Every tensor lent for writing goes out with the length that it came in with. Assumes nothing.
+use Rattle.std.specs.Prelude.{Option, Some, None, Ok, Err}
 use mathlib.Core.Path.{◌≡◌, refl, sym, ◌∙◌, subst}
 use mathlib.Core.List.{List}
 use Prim.Native.Nat.{ℕ}
@@ -9,10 +10,7 @@ use Rattle.tensor_laws.proofs.Cells.{length_tensor_of}
 use Rattle.call.specs.declared.Call.{Call}
 use Rattle.call.specs.declared.Form.{Form}
 use Rattle.call.specs.declared.Form.TheVariants.{Plain, Cached, Counted}
-use Rattle.call.specs.declared.ScoreMode.{ScoreMode}
-use Rattle.call.specs.declared.ScoreMode.TheVariants.{NoScores, Mode}
-use Rattle.call.specs.declared.Verdict.{Verdict}
-use Rattle.call.specs.declared.Verdict.TheVariants.{Accepted, Refused}
+use Rattle.call.specs.Refusals.{Verdict}
 use Rattle.call.specs.Limits.{total_of}
 use Rattle.call.specs.Lengths.{in_cached, in_scores}
 use Rattle.call.specs.Tensors.{Inputs, Outputs}
@@ -37,9 +35,9 @@ cached_length Plain t n e = refl
 cached_length Cached t n e = e
 cached_length Counted t n e = refl
 
-shown_length : (mode : ScoreMode) (t : ℕ → List Float) (n : ℕ) → ((m : ℕ) → length (t m) ≡ n) → length (where_shown mode t) ≡ in_scores mode n
-shown_length NoScores t n e = refl
-shown_length (Mode m) t n e = e m
+shown_length : (mode : Option ℕ) (t : ℕ → List Float) (n : ℕ) → ((m : ℕ) → length (t m) ≡ n) → length (where_shown mode t) ≡ in_scores mode n
+shown_length None t n e = refl
+shown_length (Some m) t n e = e m
 
 -- the tensors of an accepted call have the lengths that refusal 6 asks
 accepted_lengths : (c : Call) (x : Inputs) → OutputLengths c (accepted_of c x).tensors
@@ -57,7 +55,7 @@ pub lengths_kept : (c : Call) (x : Inputs) (y : Outputs) → SameLengths y (atte
 lengths_kept c x y = go (verdict_of c x y) refl
   where
     go : (v : Verdict) → verdict_of c x y ≡ v → SameLengths y (attention_of c x y).tensors
-    go Accepted e =
+    go (Ok u) e =
         let l = outputs→lengths c y (verdict→accepts c x y e).outputs in
         let m = accepted_lengths c x in
         subst (λ (o : Outcome). SameLengths y o.tensors) (sym (accepted_outcome c x y e))
@@ -68,4 +66,4 @@ lengths_kept c x y = go (verdict_of c x y) refl
           scores = m.scores ∙ sym l.scores;
           work = m.work ∙ sym l.work;
         })
-    go (Refused a) e = subst (λ (o : Outcome). SameLengths y o.tensors) (sym (refused_outcome c x y a e)) (record { output = refl; present_key = refl; present_value = refl; scores = refl; work = refl })
+    go (Err a) e = subst (λ (o : Outcome). SameLengths y o.tensors) (sym (refused_outcome c x y a e)) (record { output = refl; present_key = refl; present_value = refl; scores = refl; work = refl })

@@ -1,4 +1,5 @@
 -- What a call leaves. Refused, it answers its refusal, and every tensor lent for writing goes out as it came in. Accepted, it answers done, T and the number of fully masked rows, its output cells are the formula's, and its presents are the keys and the values. Assumes nothing.
+use Rattle.std.specs.Prelude.{Ok, Err}
 use mathlib.Core.Path.{◌≡◌, refl, ap, ◌∙◌}
 use Prim.Native.Nat.{ℕ, ◌<◌}
 use lib.Ieee.{Float, nan}
@@ -8,25 +9,24 @@ use Rattle.call.specs.declared.Call.{Call}
 use Rattle.call.specs.declared.Form.{Form}
 use Rattle.call.specs.declared.Form.TheVariants.{Cached}
 use Rattle.call.specs.declared.Refusal.{Refusal}
-use Rattle.call.specs.declared.Answer.TheVariants.{Done, NotDone}
-use Rattle.call.specs.declared.Verdict.{Verdict}
-use Rattle.call.specs.declared.Verdict.TheVariants.{Accepted, Refused}
+use Rattle.call.specs.Refusals.{Verdict}
 use Rattle.call.specs.Limits.{total_of}
 use Rattle.call.specs.Tensors.{Inputs, Outputs}
 use Rattle.call.specs.Refusals.{verdict_of}
 use Rattle.attention.specs.Elements.{cell_at, key_at, value_at}
 use Rattle.attention.specs.Formula.{attention_output}
 use Rattle.attention.specs.Outcomes.{where_cached, output_tensor, present_key_tensor, present_value_tensor, masked_rows_of, accepted_of, outcome_where, attention_of}
+use Rattle.call.specs.Answers.{done_of}
 
 -- ---- by the verdict
 
 -- a refused call answers its refusal, and every tensor lent for writing goes out as it came in
-pub refused_outcome : (c : Call) (x : Inputs) (y : Outputs) (r : Refusal) → verdict_of c x y ≡ Refused r → attention_of c x y ≡ record { answer = NotDone r; tensors = y }
+pub refused_outcome : (c : Call) (x : Inputs) (y : Outputs) (r : Refusal) → verdict_of c x y ≡ Err r → attention_of c x y ≡ record { answer = Err r; tensors = y }
 unfolding attention_of outcome_where
 refused_outcome c x y r e = ap (λ (v : Verdict). outcome_where v c x y) e
 
 -- the outcome of an accepted call looks at the tensors that are read alone
-pub accepted_outcome : (c : Call) (x : Inputs) (y : Outputs) → verdict_of c x y ≡ Accepted → attention_of c x y ≡ accepted_of c x
+pub accepted_outcome : (c : Call) (x : Inputs) (y : Outputs) → verdict_of c x y ≡ Ok tt → attention_of c x y ≡ accepted_of c x
 unfolding attention_of outcome_where
 accepted_outcome c x y e = ap (λ (v : Verdict). outcome_where v c x y) e
 
@@ -34,7 +34,7 @@ accepted_outcome c x y e = ap (λ (v : Verdict). outcome_where v c x y) e
 
 module _ (c : Call) (x : Inputs) where
   -- it answers done, T and the number of fully masked rows
-  pub accepted_answer : (accepted_of c x).answer ≡ Done (total_of c) (masked_rows_of c x)
+  pub accepted_answer : (accepted_of c x).answer ≡ done_of (total_of c) (masked_rows_of c x)
   unfolding accepted_of
   accepted_answer = refl
 

@@ -1,4 +1,5 @@
 -- What an accepted call computes: every weight lies from 0 to 1, E is asked only where it has a value, no element of any tensor is NaN, and the tensors lent for writing do not matter as they came in. Assumes nothing.
+use Rattle.std.specs.Prelude.{Option, Some, None, Ok}
 use mathlib.Core.Path.{◌≡◌, refl, sym, ap, ◌∙◌, subst}
 use Prim.Native.Nat.{ℕ, zero, suc, ◌-◌, ◌*◌, ◌^◌, ◌≤◌, ◌<◌}
 use native.Mathlib.Omega.{arith}
@@ -11,7 +12,6 @@ use lib.Ieee.Scale.{finite}
 use Rattle.float_laws.proofs.Order.{plus_finite, finite_not_nan}
 use Rattle.tensor_laws.specs.Layout.{tensor_of}
 use Rattle.tensor_laws.proofs.Cells.{every_tabulate, every_cell}
-use Rattle.tables.specs.declared.DefaultScale.{DefaultScale}
 use Rattle.tables.specs.Scale.{ScaleRule}
 use Rattle.tables.proofs.Scale.{default_scale}
 use Rattle.exponential.specs.ExpNeg.{plus_zero, one}
@@ -25,9 +25,6 @@ use Rattle.call.specs.declared.Form.{Form}
 use Rattle.call.specs.declared.Form.TheVariants.{Plain, Cached, Counted}
 use Rattle.call.specs.declared.Scale.{Scale}
 use Rattle.call.specs.declared.Scale.TheVariants.{Absent}
-use Rattle.call.specs.declared.ScoreMode.{ScoreMode}
-use Rattle.call.specs.declared.ScoreMode.TheVariants.{NoScores, Mode}
-use Rattle.call.specs.declared.Verdict.TheVariants.{Accepted}
 use Rattle.call.specs.Tensors.{Inputs, Outputs}
 use Rattle.call.specs.Limits.{total_of}
 use Rattle.call.specs.Contents.{live_in, live_of}
@@ -43,17 +40,17 @@ use Rattle.attention.proofs.Facts.{key_head_lt, key_bounded, value_bounded}
 use Rattle.attention.proofs.Bounded.{MaskFits, admits→live, dot_score_bounded, admitted_finite, capped_score_finite}
 
 -- two calls that differ only in the tensors lent for writing, both accepted, have the same outcome
-pub outputs_independent : (c : Call) (x : Inputs) (y y' : Outputs) → verdict_of c x y ≡ Accepted → verdict_of c x y' ≡ Accepted → attention_of c x y ≡ attention_of c x y'
+pub outputs_independent : (c : Call) (x : Inputs) (y y' : Outputs) → verdict_of c x y ≡ Ok tt → verdict_of c x y' ≡ Ok tt → attention_of c x y ≡ attention_of c x y'
 outputs_independent c x y y' e e' = accepted_outcome c x y e ∙ sym (accepted_outcome c x y' e')
 
 -- The effective scale of an accepted call that gives none obeys the rule of the default scale for its head size.
-pub absent_scale : (c : Call) (x : Inputs) (y : Outputs) → verdict_of c x y ≡ Accepted → c.scale ≡ Absent
+pub absent_scale : (c : Call) (x : Inputs) (y : Outputs) → verdict_of c x y ≡ Ok tt → c.scale ≡ Absent
     → (m : ℕ) × (e : ℕ) × HasValue (effective_scale c) false m (2 ^ e) × ScaleRule c.size m e
 unfolding effective_scale
 absent_scale c x y accepted absent =
     let l = limits→facts c (verdict→accepts c x y accepted).limits in
     let (s, m, e, d, v, r) = default_scale c.size l.size_some l.size_most in
-    (m, e, subst (λ (z : Float). HasValue z false m (2 ^ e)) (sym (ap (λ (k : Scale). scale_where k c.size) absent ∙ ap (λ (k : DefaultScale). default_or k plus_zero) d)) v, r)
+    (m, e, subst (λ (z : Float). HasValue z false m (2 ^ e)) (sym (ap (λ (k : Scale). scale_where k c.size) absent ∙ ap (λ (k : Option Float). default_or k plus_zero) d)) v, r)
 
 zero_in_unit : InUnit plus_zero
 zero_in_unit = record { sign = tt; at_most = unfold le in tt }
@@ -71,7 +68,7 @@ unit_known z u = finite_not_nan z (plus_finite z u.sign)
 bounded_known : (b z : Float) → T (finite b) → T (bounded b z) → Known z
 bounded_known b z f h = finite_not_nan z (bounded_finite b z f h)
 
-module _ (c : Call) (x : Inputs) (y : Outputs) (accepted : verdict_of c x y ≡ Accepted) (fit : MaskFits x) where
+module _ (c : Call) (x : Inputs) (y : Outputs) (accepted : verdict_of c x y ≡ Ok tt) (fit : MaskFits x) where
   a : Accepts c x y
   a = verdict→accepts c x y accepted
 
@@ -114,14 +111,14 @@ module _ (c : Call) (x : Inputs) (y : Outputs) (accepted : verdict_of c x y ≡ 
   pub work_in_unit : (i : ℕ) → InUnit (get_or (attention_of c x y).tensors.work i plus_zero)
   work_in_unit i = at_outcome (λ o. InUnit (get_or o.tensors.work i plus_zero)) (unfold accepted_of in work_row_in_unit i)
 
-  shown_in_unit : c.mode ≡ Mode 3 → (i : ℕ) → InUnit (get_or (scores_tensor c x) i plus_zero)
+  shown_in_unit : c.mode ≡ Some 3 → (i : ℕ) → InUnit (get_or (scores_tensor c x) i plus_zero)
   unfolding scores_tensor
   shown_in_unit e i =
-      subst (λ (m : ScoreMode). InUnit (get_or (where_shown m (λ m. tensor_of 4 c.batches c.qheads c.qlen (total_of c) (shown_score m c x))) i plus_zero)) (sym e)
+      subst (λ (m : Option ℕ). InUnit (get_or (where_shown m (λ m. tensor_of 4 c.batches c.qheads c.qlen (total_of c) (shown_score m c x))) i plus_zero)) (sym e)
       (every_cell InUnit 4 c.batches c.qheads c.qlen (total_of c) (shown_score 3 c x) plus_zero zero_in_unit weights_in_unit i)
 
   -- in mode 3 every element of the scores is a number from 0 to 1
-  pub scores_in_unit : c.mode ≡ Mode 3 → (i : ℕ) → InUnit (get_or (attention_of c x y).tensors.scores i plus_zero)
+  pub scores_in_unit : c.mode ≡ Some 3 → (i : ℕ) → InUnit (get_or (attention_of c x y).tensors.scores i plus_zero)
   scores_in_unit e i = at_outcome (λ o. InUnit (get_or o.tensors.scores i plus_zero)) (unfold accepted_of in shown_in_unit e i)
 
   -- ---- no NaN
@@ -179,9 +176,9 @@ module _ (c : Call) (x : Inputs) (y : Outputs) (accepted : verdict_of c x y ≡ 
   unfolding scores_tensor
   scores_known i = go c.mode
     where
-      go : (m : ScoreMode) → Known (get_or (where_shown m (λ m. tensor_of 4 c.batches c.qheads c.qlen (total_of c) (shown_score m c x))) i plus_zero)
-      go NoScores = zero_known
-      go (Mode m) = every_cell Known 4 c.batches c.qheads c.qlen (total_of c) (shown_score m c x) plus_zero zero_known (shown_known m) i
+      go : (m : Option ℕ) → Known (get_or (where_shown m (λ m. tensor_of 4 c.batches c.qheads c.qlen (total_of c) (shown_score m c x))) i plus_zero)
+      go None = zero_known
+      go (Some m) = every_cell Known 4 c.batches c.qheads c.qlen (total_of c) (shown_score m c x) plus_zero zero_known (shown_known m) i
 
 -- no element of any of the five tensors is NaN
 pub record NoNan (t : Outputs) : Type 0 where
@@ -192,7 +189,7 @@ pub record NoNan (t : Outputs) : Type 0 where
   pub work : (i : ℕ) → T (not (is_nan (get_or t.work i plus_zero)))
 
 -- an accepted call computes no NaN
-pub no_nan : (c : Call) (x : Inputs) (y : Outputs) → verdict_of c x y ≡ Accepted → MaskFits x → NoNan (attention_of c x y).tensors
+pub no_nan : (c : Call) (x : Inputs) (y : Outputs) → verdict_of c x y ≡ Ok tt → MaskFits x → NoNan (attention_of c x y).tensors
 unfolding accepted_of
 no_nan c x y e fit =
     at_outcome c x y e fit (λ o. NoNan o.tensors)

@@ -1,7 +1,6 @@
 -- The step entry as a function on values, and the outcome at either entry. Definitions only.
-use Rattle.std.specs.Prelude.{List, [], cond, Float}
+use Rattle.std.specs.Prelude.{List, [], cond, Float, Err}
 use Rattle.call.specs.declared.Call.{Call}
-use Rattle.call.specs.declared.Answer.TheVariants.{NotDone}
 use Rattle.call.specs.declared.Refusal.TheVariants.{Profile}
 use Rattle.call.specs.Tensors.{Inputs, Outputs, inputs_of, outputs_of}
 use Rattle.call.specs.Profile.{Entry, general, step, profile_holds}
@@ -17,7 +16,7 @@ step_outputs output present_key present_value work = outputs_of output present_k
 -- a record of the profile has the general entry's outcome; any other is refusal 10, and every tensor is as it came in
 unfoldable pub step_of : Call → Inputs → Outputs → Outcome
 unfolding profile_holds attention_of
-step_of c x y = cond (profile_holds c) (attention_of c x y) (outcome_of (NotDone Profile) y)
+step_of c x y = cond (profile_holds c) (attention_of c x y) (outcome_of (Err Profile) y)
 
 abbrev pub outcome_at : Entry → Call → Inputs → Outputs → Outcome
 outcome_at general c x y = attention_of c x y

@@ -1,9 +1,7 @@
 -- The scores, weights and outputs of every row, by the row formula of the layer below. Definitions only.
-use Rattle.std.specs.Prelude.{ℕ, zero, suc, Bool, cond, ltb, Float}
+use Rattle.std.specs.Prelude.{ℕ, zero, suc, Bool, cond, ltb, Float, Option, Some, None}
 use Rattle.std.specs.Float.{binary32}
 use Rattle.std.specs.Float.Ieee.{add}
-use Rattle.tables.specs.declared.DefaultScale.{DefaultScale}
-use Rattle.tables.specs.declared.DefaultScale.TheVariants.{ScaleIs, NoScale}
 use Rattle.tables.specs.Scale.{default_scale_of}
 use Rattle.exponential.specs.ExpNeg.{plus_zero}
 use Rattle.softmax.specs.Row.{score_of, fully_masked_of, weight_of, row_output_of}
@@ -22,9 +20,9 @@ use Rattle.attention.specs.Admission.{mask_cell, admits}
 
 -- ---- the scale: as given, or the default for the head size
 
-abbrev pub default_or : DefaultScale → Float → Float
-default_or (ScaleIs x) y = x
-default_or NoScale y = y
+abbrev pub default_or : Option Float → Float → Float
+default_or (Some x) y = x
+default_or None y = y
 
 abbrev pub scale_where : Scale → ℕ → Float
 scale_where Absent size = default_or (default_scale_of size) plus_zero

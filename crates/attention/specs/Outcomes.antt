@@ -1,16 +1,12 @@
 -- The whole call as one function on values: from the record, the tensors that are read and the tensors lent for writing as they came in, to the answer and those tensors as they go out. Definitions only.
-use Rattle.std.specs.Prelude.{List, [], ℕ, ◌-◌, ◌*◌, Float}
+use Rattle.std.specs.Prelude.{List, [], ℕ, ◌-◌, ◌*◌, Float, Option, Some, None, Ok, Err}
 use Rattle.bool_laws.specs.Counts.{count_where}
 use Rattle.tensor_laws.specs.Layout.{tabulate, tensor_of, batch_at, head_at, position_at}
 use Rattle.call.specs.declared.Call.{Call}
 use Rattle.call.specs.declared.Form.{Form}
 use Rattle.call.specs.declared.Form.TheVariants.{Plain, Cached, Counted}
-use Rattle.call.specs.declared.ScoreMode.{ScoreMode}
-use Rattle.call.specs.declared.ScoreMode.TheVariants.{NoScores, Mode}
-use Rattle.call.specs.declared.Answer.{Answer}
-use Rattle.call.specs.declared.Answer.TheVariants.{Done, NotDone}
-use Rattle.call.specs.declared.Verdict.{Verdict}
-use Rattle.call.specs.declared.Verdict.TheVariants.{Accepted, Refused}
+use Rattle.call.specs.Answers.{Answer, done_of}
+use Rattle.call.specs.Refusals.{Verdict}
 use Rattle.call.specs.Limits.{total_of}
 use Rattle.call.specs.Tensors.{Inputs, Outputs}
 use Rattle.call.specs.Refusals.{verdict_of}
@@ -34,9 +30,9 @@ unfolding tensor_of
 present_value_tensor c x = where_cached c.form (tensor_of 4 c.batches c.kvheads (total_of c) c.vsize (value_at c x))
 
 -- the scores are (B, Hq, Sq, T), row-major, in either rank
-abbrev pub where_shown : ScoreMode → (ℕ → List Float) → List Float
-where_shown NoScores t = []
-where_shown (Mode m) t = t m
+abbrev pub where_shown : Option ℕ → (ℕ → List Float) → List Float
+where_shown None t = []
+where_shown (Some m) t = t m
 
 unfoldable pub scores_tensor : Call → Inputs → List Float
 unfolding tensor_of
@@ -72,7 +68,7 @@ outcome_of answer tensors = record { answer = answer; tensors = tensors }
 unfoldable pub accepted_of : Call → Inputs → Outcome
 unfolding masked_rows_of output_tensor present_key_tensor present_value_tensor scores_tensor work_row
 accepted_of c x = record {
-  answer = Done (total_of c) (masked_rows_of c x);
+  answer = done_of (total_of c) (masked_rows_of c x);
   tensors = record {
     output = output_tensor c x;
     present_key = present_key_tensor c x;
@@ -85,8 +81,8 @@ accepted_of c x = record {
 -- a refused call answers the refusal, and every tensor is as it came in
 unfoldable pub outcome_where : Verdict → Call → Inputs → Outputs → Outcome
 unfolding accepted_of
-outcome_where (Refused r) c x y = record { answer = NotDone r; tensors = y }
-outcome_where Accepted c x y = accepted_of c x
+outcome_where (Err r) c x y = record { answer = Err r; tensors = y }
+outcome_where (Ok u) c x y = accepted_of c x
 
 unfoldable pub attention_of : Call → Inputs → Outputs → Outcome
 unfolding verdict_of outcome_where

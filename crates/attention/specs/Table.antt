@@ -1,19 +1,14 @@
 -- What an example says of the formulas, and the starred examples A to I as one table of such claims. Definitions only.
-use Rattle.std.specs.Prelude.{◌≡◌, List, [], ◌∷◌, ℕ, false, negsuc, Float}
+use Rattle.std.specs.Prelude.{◌≡◌, List, [], ◌∷◌, ℕ, false, negsuc, Float, Option, Some, None}
 use Rattle.std.specs.Float.{fin, binary32}
 use Rattle.std.specs.Float.Ieee.{mul, of_bits}
-use Rattle.tables.specs.declared.DefaultScale.{DefaultScale}
-use Rattle.tables.specs.declared.DefaultScale.TheVariants.{ScaleIs}
 use Rattle.tables.specs.Scale.{default_scale_of}
-use Rattle.exponential.specs.declared.Exponential.{Exponential}
-use Rattle.exponential.specs.declared.Exponential.TheVariants.{Value}
 use Rattle.exponential.specs.ExpNeg.{plus_zero, one, limit, log2e, whole_part_of, scaled_of, exp_neg_of}
 use Rattle.softmax.specs.Cap.{capped_where}
 use Rattle.call.specs.declared.Call.{Call}
 use Rattle.call.specs.declared.Form.TheVariants.{Plain, Cached}
 use Rattle.call.specs.declared.MaskKind.TheVariants.{NoMask, Boolean}
 use Rattle.call.specs.declared.Scale.TheVariants.{Absent}
-use Rattle.call.specs.declared.ScoreMode.TheVariants.{NoScores, Mode}
 use Rattle.call.specs.Parts.{call_with}
 use Rattle.call.specs.Tensors.{Inputs, Outputs}
 use Rattle.attention.specs.Elements.{key_head_of}
@@ -27,11 +22,11 @@ pub data Claim : Type 0 where
   -- E by y, as it stands after the product with LOG2E
   exponential_at : Float → Float → Claim
   -- E of d
-  exponential_of : Float → Exponential → Claim
+  exponential_of : Float → Option Float → Claim
   -- n of d
   whole_part : Float → ℕ → Claim
   -- the default scale of a head size
-  scale_of : ℕ → DefaultScale → Claim
+  scale_of : ℕ → Option Float → Claim
   -- the key head of a query head
   key_head : Call → ℕ → ℕ → Claim
   -- under a cap a score becomes this
@@ -56,7 +51,7 @@ half = fin false 1 (negsuc 0)
 
 -- four query heads and two key heads
 abbrev pub grouped : Call
-grouped = call_with Plain NoMask Absent plus_zero NoScores 4 0 1 4 2 1 1 0 1 1 1 1 1 1
+grouped = call_with Plain NoMask Absent plus_zero None 4 0 1 4 2 1 1 0 1 1 1 1 1 1
 
 -- ---- A to F: the calls, what they lend, and their outcomes
 
@@ -82,7 +77,7 @@ outcome_b = done 2 0 (tensors (number 3 0 ∷ []) [] [] [] (half ∷ half ∷ []
 
 -- C: as B, with the boolean mask 0 0: output +0 and one fully masked row; with the mask 1 0: output 2
 abbrev pub call_c : Call
-call_c = small Plain Boolean NoScores 0 0 1 2
+call_c = small Plain Boolean None 0 0 1 2
 
 abbrev pub outcome_c : Outcome
 outcome_c = done 2 1 (tensors (plus_zero ∷ []) [] [] [] (plus_zero ∷ plus_zero ∷ []))
@@ -96,7 +91,7 @@ outcome_d = done 2 0 (tensors (number 3 1 ∷ number 9 0 ∷ []) [] [] [] (half 
 
 -- E: past key 1 and value 6, then query 1, key 1, value 12, cached causal: output 9, presents 1 1 and 6 12
 abbrev pub call_e : Call
-call_e = small Cached NoMask NoScores 1 1 1 1
+call_e = small Cached NoMask None 1 1 1 1
 
 abbrev pub inputs_e : Inputs
 inputs_e = lending_past (one ∷ []) (one ∷ []) (number 3 2 ∷ []) (one ∷ []) (number 3 1 ∷ [])
@@ -120,34 +115,34 @@ unfoldable pub starred_table : List Claim
 unfolding of_bits
 starred_table =
     -- A, in the modes that show s, and in the one that shows the weight
-    outcome (small Plain NoMask (Mode 0) 0 0 1 1) inputs_a lent_a (outcome_a (number 3 1))
-    ∷ outcome (small Plain NoMask (Mode 1) 0 0 1 1) inputs_a lent_a (outcome_a (number 3 1))
-    ∷ outcome (small Plain NoMask (Mode 2) 0 0 1 1) inputs_a lent_a (outcome_a (number 3 1))
-    ∷ outcome (small Plain NoMask (Mode 3) 0 0 1 1) inputs_a lent_a (outcome_a one)
+    outcome (small Plain NoMask (Some 0) 0 0 1 1) inputs_a lent_a (outcome_a (number 3 1))
+    ∷ outcome (small Plain NoMask (Some 1) 0 0 1 1) inputs_a lent_a (outcome_a (number 3 1))
+    ∷ outcome (small Plain NoMask (Some 2) 0 0 1 1) inputs_a lent_a (outcome_a (number 3 1))
+    ∷ outcome (small Plain NoMask (Some 3) 0 0 1 1) inputs_a lent_a (outcome_a one)
     -- B
-    ∷ outcome (small Plain NoMask NoScores 0 0 1 2) (inputs_b []) lent_b outcome_b
+    ∷ outcome (small Plain NoMask None 0 0 1 2) (inputs_b []) lent_b outcome_b
     -- C
     ∷ outcome call_c (inputs_b (0 ∷ 0 ∷ [])) lent_b outcome_c
     ∷ outcome call_c (inputs_b (1 ∷ 0 ∷ [])) lent_b (done 2 0 (tensors (number 1 1 ∷ []) [] [] [] (one ∷ plus_zero ∷ [])))
     -- D
-    ∷ outcome (small Plain NoMask NoScores 1 0 2 2) inputs_d (tensors (zeros 2) [] [] [] (zeros 2)) outcome_d
+    ∷ outcome (small Plain NoMask None 1 0 2 2) inputs_d (tensors (zeros 2) [] [] [] (zeros 2)) outcome_d
     -- E
     ∷ outcome call_e inputs_e lent_e outcome_e
     -- F; with keys 83 0 n is 30,654, and E isn't zero
-    ∷ outcome (small Plain NoMask NoScores 0 0 1 2) inputs_f lent_b outcome_f
+    ∷ outcome (small Plain NoMask None 0 0 1 2) inputs_f lent_b outcome_f
     ∷ whole_part (number 83 0) 30654
-    ∷ exponential_of (number 83 0) (Value (of_bits binary32 0x0398e2bc))
+    ∷ exponential_of (number 83 0) (Some (of_bits binary32 0x0398e2bc))
     -- G: y 0, 0.5, 1 and 120
     ∷ exponential_at plus_zero one
     ∷ exponential_at half (of_bits binary32 0x3f3504f3)
     ∷ exponential_at one half
     ∷ exponential_at limit plus_zero
     -- H: D 4, 16, 64, 256 and 2
-    ∷ scale_of 4 (ScaleIs half)
-    ∷ scale_of 16 (ScaleIs (fin false 1 (negsuc 1)))
-    ∷ scale_of 64 (ScaleIs (fin false 1 (negsuc 2)))
-    ∷ scale_of 256 (ScaleIs (fin false 1 (negsuc 3)))
-    ∷ scale_of 2 (ScaleIs (of_bits binary32 0x3f3504f3))
+    ∷ scale_of 4 (Some half)
+    ∷ scale_of 16 (Some (fin false 1 (negsuc 1)))
+    ∷ scale_of 64 (Some (fin false 1 (negsuc 2)))
+    ∷ scale_of 256 (Some (fin false 1 (negsuc 3)))
+    ∷ scale_of 2 (Some (of_bits binary32 0x3f3504f3))
     -- I: heads 0 and 1 use 0, heads 2 and 3 use 1
     ∷ key_head grouped 0 0
     ∷ key_head grouped 1 0

@@ -9,32 +9,20 @@ ghost use Rattle.attention.specs.Elements.{position_cell};
 ghost use Rattle.caches.specs.Fits.{PresentFits};
 ghost use Rattle.caches.specs.Rows.{in_head};
 
+use caches::HeadCache;
 use call::Call;
 
 // The present cache's rows of key head g in batch b: the past rows and then the incoming rows, each copied whole.
-pub fn copy_head<'a>(
-    call: Call,
-    past: &'a [f32],
-    incoming: &'a [f32],
-    size: usize,
-    b: usize,
-    g: usize,
-    out: &mut [f32],
-)
-    requires present_fits { PresentFits call (length past.now) (length incoming.now) (length out.old) size }
-    requires b_lt_batches { (b < call.batches) × (g < call.kvheads) }
-    ensures { out.new ≡ written_of 4 call.batches call.kvheads (total_of call) size (in_head b g) (position_cell call past.now incoming.now size) nan out.old }
+pub fn copy_head(call: Call, cache: HeadCache<'_>, out: &mut [f32])
+    requires present_fits { PresentFits call (length cache.past.now) (length cache.incoming.now) (length out.old) cache.size }
+    requires b_lt_batches { (cache.b < call.batches) × (cache.g < call.kvheads) }
+    ensures { out.new ≡ written_of 4 call.batches call.kvheads (total_of call) cache.entry.size (in_head cache.entry.b cache.entry.g) (position_cell call cache.entry.past.now cache.entry.incoming.now cache.entry.size) nan out.old }
 {
     let heads = call.kvheads;
     let total = call.past + call.klen;
-    let mut j = 0;
-    while j < total {
-        let a = caches_rows::row_start(4, heads, total, size, b, g, j);
-        let e = a + size;
-        row_copies::copy_row(
-            caches_rows::row_of(call, past, incoming, size, b, g, j),
-            &mut out[a..e],
-        );
-        j += 1;
+    for j in 0..total {
+        let a = caches_rows::row_start(4, heads, total, cache.size, cache.b, cache.g, j);
+        let e = a + cache.size;
+        row_copies::copy_row(caches_rows::row_of(call, cache, j), &mut out[a..e]);
     }
 }

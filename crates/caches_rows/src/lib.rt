@@ -4,9 +4,11 @@
 ghost use Rattle.std.specs.Prelude.{◌≡◌, true, ◌+◌, ◌*◌, ◌≤◌, ◌<◌, length};
 ghost use Rattle.tensor_laws.specs.Layout.{slot};
 ghost use Rattle.call.specs.Limits.{total_of, limits_hold};
-ghost use Rattle.caches.specs.Fits.{RowFits, CacheFits};
-ghost use Rattle.caches.specs.Rows.{rows_from, position_row, stride_from, position_run};
+ghost use Rattle.caches.specs.Fits.{RowFits};
+ghost use Rattle.caches.specs.Rows.{stride_from};
+ghost use Rattle.caches.specs.Lent.{HeadFits, head_from, head_row, head_run};
 
+use caches::HeadCache;
 use call::Call;
 
 // Where the row of batch b, head h, position s starts in a tensor of either rank.
@@ -29,18 +31,17 @@ pub fn row_start(
 }
 
 // The part of the two lent tensors that starts with position j's row of key head g in batch b: the past cache's below P, the incoming tensor's from there on.
-fn rows_from<'a>(
-    call: Call,
-    past: &'a [f32],
-    incoming: &'a [f32],
-    size: usize,
-    b: usize,
-    g: usize,
-    j: usize,
-) -> &'a [f32]
-    requires { CacheFits call (length past.now) (length incoming.now) size b g j }
-    ensures { result.now ≡ rows_from call past.now incoming.now size b g j }
+fn rows_from<'a>(call: Call, cache: HeadCache<'a>, j: usize) -> &'a [f32]
+    requires { HeadFits call cache j }
+    ensures { result.now ≡ head_from call cache.entry j }
 {
+    let HeadCache {
+        past,
+        incoming,
+        size,
+        b,
+        g,
+    } = cache;
     let before = call.past;
     if j < before {
         let at = row_start(4, call.kvheads, before, size, b, g, j);
@@ -51,20 +52,12 @@ fn rows_from<'a>(
 }
 
 // Position j's row of key head g in batch b: that part's first `size` elements.
-pub fn row_of<'a>(
-    call: Call,
-    past: &'a [f32],
-    incoming: &'a [f32],
-    size: usize,
-    b: usize,
-    g: usize,
-    j: usize,
-) -> &'a [f32]
-    requires { CacheFits call (length past.now) (length incoming.now) size b g j }
-    ensures { result.now ≡ position_row call past.now incoming.now size b g j }
+pub fn row_of<'a>(call: Call, cache: HeadCache<'a>, j: usize) -> &'a [f32]
+    requires { HeadFits call cache j }
+    ensures { result.now ≡ head_row call cache.entry j }
 {
-    let rows = rows_from(call, past, incoming, size, b, g, j);
-    &rows[..size]
+    let rows = rows_from(call, cache, j);
+    &rows[..cache.size]
 }
 
 // The distance from one position's row to the next in the part that starts with position j's.
@@ -83,22 +76,13 @@ pub fn row_stride(call: Call, size: usize, j: usize) -> usize
 }
 
 // A run of rows: those of `count` positions from `from` on, all in one of the two tensors, from the start of the first to the end of the last; they stand `row_stride` apart.
-pub fn run_of<'a>(
-    call: Call,
-    past: &'a [f32],
-    incoming: &'a [f32],
-    size: usize,
-    b: usize,
-    g: usize,
-    from: usize,
-    count: usize,
-) -> &'a [f32]
-    requires cache_fits { CacheFits call (length past.now) (length incoming.now) size b g from }
+pub fn run_of<'a>(call: Call, cache: HeadCache<'a>, from: usize, count: usize) -> &'a [f32]
+    requires cache_fits { HeadFits call cache from }
     requires count_nonzero { (0 < count) × (from < call.past → from + count ≤ call.past) × (from + count ≤ total_of call) }
-    ensures { result.now ≡ position_run call past.now incoming.now size b g from count }
+    ensures { result.now ≡ head_run call cache.entry from count }
 {
-    let rows = rows_from(call, past, incoming, size, b, g, from);
-    let stride = row_stride(call, size, from);
-    let end = (count - 1) * stride + size;
+    let rows = rows_from(call, cache, from);
+    let stride = row_stride(call, cache.size, from);
+    let end = (count - 1) * stride + cache.size;
     &rows[..end]
 }

@@ -1,4 +1,5 @@
 -- The cap at its edges, by computation: which caps refusal 3 allows, and its place among the refusals; and no cap is part of the step profile. Assumes nothing.
+use Rattle.std.specs.Prelude.{Ok, Err}
 use mathlib.Core.Path.{◌≡◌, refl}
 use mathlib.Core.List.{[], ◌∷◌}
 use mathlib.Core.Bool.{true, false}
@@ -8,7 +9,6 @@ use Rattle.call.specs.declared.Call.{Call}
 use Rattle.call.specs.declared.Form.TheVariants.{Plain}
 use Rattle.call.specs.declared.Scale.TheVariants.{Absent}
 use Rattle.call.specs.declared.Refusal.TheVariants.{Limits, HeadGroups, Settings}
-use Rattle.call.specs.declared.Verdict.TheVariants.{Accepted, Refused}
 use Rattle.call.specs.Parts.{call_with}
 use Rattle.call.specs.Limits.{cap_allowed}
 use Rattle.call.specs.Refusals.{verdict_of}
@@ -37,11 +37,11 @@ pub record CapEdgesHold : Type 0 where
   pub below_zero : cap_allowed (fin true 1 (negsuc 148)) ≡ false
   pub not_a_number : cap_allowed nan ≡ false
   -- a cap is accepted in a call; a bad one is refusal 3, after 1 and 2 and before the lengths
-  pub accepted : verdict_of (with_cap (fin false 15 (pos 1)) (call Plain Absent 1 1 1)) (lending (one ∷ []) (one ∷ []) (one ∷ []) []) (writing (one ∷ []) (one ∷ [])) ≡ Accepted
-  pub refused : verdict_of (with_cap (inf false) (call Plain Absent 1 1 1)) (lending (one ∷ []) (one ∷ []) (one ∷ []) []) (writing (one ∷ []) (one ∷ [])) ≡ Refused Settings
-  pub limits_first : verdict_of (with_cap nan (call Plain Absent 4 3 2049)) (lending [] [] [] []) (writing [] []) ≡ Refused Limits
-  pub groups_first : verdict_of (with_cap nan (call Plain Absent 4 3 1)) (lending [] [] [] []) (writing [] []) ≡ Refused HeadGroups
-  pub before_lengths : verdict_of (with_cap nan (call Plain Absent 1 1 1)) (lending [] [] [] []) (writing [] []) ≡ Refused Settings
+  pub accepted : verdict_of (with_cap (fin false 15 (pos 1)) (call Plain Absent 1 1 1)) (lending (one ∷ []) (one ∷ []) (one ∷ []) []) (writing (one ∷ []) (one ∷ [])) ≡ Ok tt
+  pub refused : verdict_of (with_cap (inf false) (call Plain Absent 1 1 1)) (lending (one ∷ []) (one ∷ []) (one ∷ []) []) (writing (one ∷ []) (one ∷ [])) ≡ Err Settings
+  pub limits_first : verdict_of (with_cap nan (call Plain Absent 4 3 2049)) (lending [] [] [] []) (writing [] []) ≡ Err Limits
+  pub groups_first : verdict_of (with_cap nan (call Plain Absent 4 3 1)) (lending [] [] [] []) (writing [] []) ≡ Err HeadGroups
+  pub before_lengths : verdict_of (with_cap nan (call Plain Absent 1 1 1)) (lending [] [] [] []) (writing [] []) ≡ Err Settings
 
 pub cap_edges_hold : CapEdgesHold
 unfolding verdict_of

@@ -1,12 +1,12 @@
 -- The ten refusals at each entry: a record that the entry does not take is refusal 10, and of one that it takes the nine others apply. Assumes nothing.
+use Rattle.std.specs.Prelude.{Err}
 use mathlib.Core.Path.{◌≡◌, refl, sym}
 use mathlib.Core.List.{[], ◌∷◌, map}
 use mathlib.Core.Bool.{true, false, true≢false}
 use Rattle.call.specs.declared.Call.{Call}
 use Rattle.call.specs.declared.Refusal.TheVariants.{Profile}
-use Rattle.call.specs.declared.Verdict.TheVariants.{Refused}
 use Rattle.call.specs.Tensors.{Inputs, Outputs}
-use Rattle.call.specs.Refusals.{link_number, first_of, general_links, links_of, verdict_of}
+use Rattle.call.specs.Refusals.{link_number, first_of, links_of, verdict_of}
 use Rattle.call.specs.Profile.{Entry, general, step, takes}
 use Rattle.call.proofs.FirstLink.{general_links_lem}
 
@@ -17,7 +17,7 @@ taken_links general c x y t = sym (general_links_lem c x y)
 taken_links step c x y t = rw t (sym (general_links_lem c x y))
 
 -- and 10 of one that it does not take
-pub other_links : (e : Entry) (c : Call) (x : Inputs) (y : Outputs) → takes e c ≡ false → first_of (links_of e c x y) ≡ Refused Profile
+pub other_links : (e : Entry) (c : Call) (x : Inputs) (y : Outputs) → takes e c ≡ false → first_of (links_of e c x y) ≡ Err Profile
 unfolding first_of
 other_links general c x y t = absurd (true≢false t)
 other_links step c x y t = rw t

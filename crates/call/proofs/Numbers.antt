@@ -1,4 +1,5 @@
 -- The nine refusals of the table stand in the order of their numbers, so one of them that is given has the lowest number that applies. Assumes nothing.
+use Rattle.std.specs.Prelude.{Some, None, Err}
 use mathlib.Core.Path.{◌≡◌, refl, sym, ap, ◌∙◌, subst}
 use mathlib.Core.List.{List, [], ◌∷◌, map}
 use mathlib.Core.Bool.{Bool, true, false, not, ◌&&◌, cond}
@@ -9,11 +10,9 @@ use borrow.Author.Tests.{leb-true}
 use Rattle.bool_laws.proofs.Tests.{both_true}
 use Rattle.call.specs.declared.Call.{Call}
 use Rattle.call.specs.declared.Refusal.{Refusal}
-use Rattle.call.specs.declared.Verdict.TheVariants.{Refused}
 use Rattle.call.specs.Answers.{number_of}
 use Rattle.call.specs.Tensors.{Inputs, Outputs}
-use Rattle.call.specs.Contents.{nothing, at}
-use Rattle.call.specs.Refusals.{Link, test, scan, first_of, Passes, PassesBelow, link_number, general_links, verdict_of}
+use Rattle.call.specs.Refusals.{Link, test, scan, first_of, PassesBelow, link_number, general_links, verdict_of}
 use Rattle.call.proofs.FirstLink.{refused_not_accepted, same_refusal, general_links_lem}
 
 -- the numbers of the links: 8 is tested twice, and 9 five times
@@ -56,7 +55,7 @@ tail_rising l ls t o = go (leb (link_number l) 9) refl o
     go true e o = (link_number l, (both_true (leb t (link_number l)) (rising (link_number l) ls) o).1, λ m. refl)
     go false e o = (t, o, λ m. absurd (let n = above (link_number l) 9 e in omega arith))
 
-lowest : (ls : List Link) (t : ℕ) (a : Refusal) → number_of a ≤ 9 → rising t ls ≡ true → Steady ls → first_of ls ≡ Refused a → PassesBelow (number_of a) ls
+lowest : (ls : List Link) (t : ℕ) (a : Refusal) → number_of a ≤ 9 → rising t ls ≡ true → Steady ls → first_of ls ≡ Err a → PassesBelow (number_of a) ls
 unfolding first_of
 lowest [] t a k o s e = absurd (refused_not_accepted (sym e))
 lowest (test r true ∷ ls) t a k o s e = let u = tail_rising (test r true) ls t o in (λ q. refl, lowest ls u.0 a k u.1 s e)
@@ -65,14 +64,14 @@ lowest (test r false ∷ ls) t a k o s e =
     let u = tail_rising (test r false) ls t o in
     let v = u.2 (omega arith) in
     (λ q. absurd (omega arith), none_below ls u.0 (number_of a) u.1 (omega arith) k)
-lowest (scan r nothing ∷ ls) t a k o s e = let u = tail_rising (scan r nothing) ls t o in (λ q. refl, lowest ls u.0 a k u.1 s.1 e)
-lowest (scan r (at i) ∷ ls) t a k o s e =
+lowest (scan r None ∷ ls) t a k o s e = let u = tail_rising (scan r None) ls t o in (λ q. refl, lowest ls u.0 a k u.1 s.1 e)
+lowest (scan r (Some i) ∷ ls) t a k o s e =
     let n = s.0 i ∙ ap number_of (same_refusal e) in
-    let u = tail_rising (scan r (at i)) ls t o in
+    let u = tail_rising (scan r (Some i)) ls t o in
     let v = u.2 (omega arith) in
     (λ q. absurd (omega arith), none_below ls u.0 (number_of a) u.1 (omega arith) k)
 
 -- of the nine refusals of the table: no link with a lower number than that of the refusal that is given refuses
-pub lowest_given : (c : Call) (x : Inputs) (y : Outputs) (a : Refusal) → number_of a ≤ 9 → verdict_of c x y ≡ Refused a → PassesBelow (number_of a) (general_links c x y)
+pub lowest_given : (c : Call) (x : Inputs) (y : Outputs) (a : Refusal) → number_of a ≤ 9 → verdict_of c x y ≡ Err a → PassesBelow (number_of a) (general_links c x y)
 unfolding rising
 lowest_given c x y a k e = lowest (general_links c x y) 0 a k refl (omega arith) (sym (general_links_lem c x y) ∙ e)

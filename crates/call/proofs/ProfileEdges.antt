@@ -1,4 +1,5 @@
 -- The step profile at its edges, by computation: a record of the profile, records that differ from one in each of its eight conditions, and what is free. Assumes nothing.
+use Rattle.std.specs.Prelude.{Option, Some, None, Err}
 use mathlib.Core.Path.{◌≡◌, refl}
 use Prim.Native.Nat.{ℕ}
 use mathlib.Core.Bool.{true, false}
@@ -10,9 +11,6 @@ use Rattle.call.specs.declared.MaskKind.{MaskKind}
 use Rattle.call.specs.declared.MaskKind.TheVariants.{NoMask, Boolean, FloatMask}
 use Rattle.call.specs.declared.Scale.{Scale}
 use Rattle.call.specs.declared.Scale.TheVariants.{Absent, Given}
-use Rattle.call.specs.declared.ScoreMode.{ScoreMode}
-use Rattle.call.specs.declared.ScoreMode.TheVariants.{NoScores, Mode}
-use Rattle.call.specs.declared.Answer.TheVariants.{NotDone}
 use Rattle.call.specs.declared.Refusal.TheVariants.{Profile}
 use Rattle.call.specs.Parts.{call_with}
 use Rattle.call.specs.Answers.{report_of}
@@ -20,35 +18,35 @@ use Rattle.call.specs.Profile.{general, profile_holds, takes}
 use Rattle.call.proofs.Edges.{zero}
 
 -- the eight that the profile looks at, with a scale, a cap and one number for all that it does not
-abbrev pub decode : Form → MaskKind → ScoreMode → (rank causal batches qlen klen : ℕ) → Scale → (cap : Float) → (free : ℕ) → Call
+abbrev pub decode : Form → MaskKind → Option ℕ → (rank causal batches qlen klen : ℕ) → Scale → (cap : Float) → (free : ℕ) → Call
 decode form mask mode rank causal batches qlen klen scale cap free = call_with form mask scale cap mode rank causal batches free free qlen klen free free free free free free free
 
 pub record ProfileEdgesHold : Type 0 where
   -- a decode step; what the profile does not look at may be anything
-  pub decode_step : profile_holds (decode Cached NoMask NoScores 4 1 1 1 1 Absent zero 1) ≡ true
-  pub anything_free : profile_holds (decode Cached NoMask NoScores 4 1 1 1 1 (Given nan) nan 0) ≡ true
-  pub large_free : profile_holds (decode Cached NoMask NoScores 4 1 1 1 1 Absent zero 18446744073709551615) ≡ true
+  pub decode_step : profile_holds (decode Cached NoMask None 4 1 1 1 1 Absent zero 1) ≡ true
+  pub anything_free : profile_holds (decode Cached NoMask None 4 1 1 1 1 (Given nan) nan 0) ≡ true
+  pub large_free : profile_holds (decode Cached NoMask None 4 1 1 1 1 Absent zero 18446744073709551615) ≡ true
   -- each of the eight conditions is needed
-  pub plain : profile_holds (decode Plain NoMask NoScores 4 1 1 1 1 Absent zero 1) ≡ false
-  pub counted : profile_holds (decode Counted NoMask NoScores 4 1 1 1 1 Absent zero 1) ≡ false
-  pub boolean_mask : profile_holds (decode Cached Boolean NoScores 4 1 1 1 1 Absent zero 1) ≡ false
-  pub float_mask_is : profile_holds (decode Cached FloatMask NoScores 4 1 1 1 1 Absent zero 1) ≡ false
-  pub scores_shown : profile_holds (decode Cached NoMask (Mode 0) 4 1 1 1 1 Absent zero 1) ≡ false
-  pub mode_255 : profile_holds (decode Cached NoMask (Mode 255) 4 1 1 1 1 Absent zero 1) ≡ false
-  pub rank_3 : profile_holds (decode Cached NoMask NoScores 3 1 1 1 1 Absent zero 1) ≡ false
-  pub rank_7 : profile_holds (decode Cached NoMask NoScores 7 1 1 1 1 Absent zero 1) ≡ false
-  pub not_causal : profile_holds (decode Cached NoMask NoScores 4 0 1 1 1 Absent zero 1) ≡ false
-  pub causal_2 : profile_holds (decode Cached NoMask NoScores 4 2 1 1 1 Absent zero 1) ≡ false
-  pub no_batch : profile_holds (decode Cached NoMask NoScores 4 1 0 1 1 Absent zero 1) ≡ false
-  pub two_batches : profile_holds (decode Cached NoMask NoScores 4 1 2 1 1 Absent zero 1) ≡ false
-  pub no_query : profile_holds (decode Cached NoMask NoScores 4 1 1 0 1 Absent zero 1) ≡ false
-  pub queries_3000 : profile_holds (decode Cached NoMask NoScores 4 1 1 3000 1 Absent zero 1) ≡ false
-  pub no_key : profile_holds (decode Cached NoMask NoScores 4 1 1 1 0 Absent zero 1) ≡ false
-  pub two_keys : profile_holds (decode Cached NoMask NoScores 4 1 1 1 2 Absent zero 1) ≡ false
+  pub plain : profile_holds (decode Plain NoMask None 4 1 1 1 1 Absent zero 1) ≡ false
+  pub counted : profile_holds (decode Counted NoMask None 4 1 1 1 1 Absent zero 1) ≡ false
+  pub boolean_mask : profile_holds (decode Cached Boolean None 4 1 1 1 1 Absent zero 1) ≡ false
+  pub float_mask_is : profile_holds (decode Cached FloatMask None 4 1 1 1 1 Absent zero 1) ≡ false
+  pub scores_shown : profile_holds (decode Cached NoMask (Some 0) 4 1 1 1 1 Absent zero 1) ≡ false
+  pub mode_255 : profile_holds (decode Cached NoMask (Some 255) 4 1 1 1 1 Absent zero 1) ≡ false
+  pub rank_3 : profile_holds (decode Cached NoMask None 3 1 1 1 1 Absent zero 1) ≡ false
+  pub rank_7 : profile_holds (decode Cached NoMask None 7 1 1 1 1 Absent zero 1) ≡ false
+  pub not_causal : profile_holds (decode Cached NoMask None 4 0 1 1 1 Absent zero 1) ≡ false
+  pub causal_2 : profile_holds (decode Cached NoMask None 4 2 1 1 1 Absent zero 1) ≡ false
+  pub no_batch : profile_holds (decode Cached NoMask None 4 1 0 1 1 Absent zero 1) ≡ false
+  pub two_batches : profile_holds (decode Cached NoMask None 4 1 2 1 1 Absent zero 1) ≡ false
+  pub no_query : profile_holds (decode Cached NoMask None 4 1 1 0 1 Absent zero 1) ≡ false
+  pub queries_3000 : profile_holds (decode Cached NoMask None 4 1 1 3000 1 Absent zero 1) ≡ false
+  pub no_key : profile_holds (decode Cached NoMask None 4 1 1 1 0 Absent zero 1) ≡ false
+  pub two_keys : profile_holds (decode Cached NoMask None 4 1 1 1 2 Absent zero 1) ≡ false
   -- the general entry takes any record
-  pub general_takes : takes general (decode Plain Boolean (Mode 9) 7 2 0 3000 0 (Given nan) nan 0) ≡ true
+  pub general_takes : takes general (decode Plain Boolean (Some 9) 7 2 0 3000 0 (Given nan) nan 0) ≡ true
   -- refusal 10 has no place
-  pub profile_report : report_of (NotDone Profile) ≡ record { number = 10; tensor = 0; index = 0; total = 0; masked = 0 }
+  pub profile_report : report_of (Err Profile) ≡ record { number = 10; tensor = 0; index = 0; total = 0; masked = 0 }
 
 pub profile_edges_hold : ProfileEdgesHold
 unfolding profile_holds

@@ -1,10 +1,9 @@
 -- The refusals as numbers, and what an answer reports: the number of the refusal (0 for done), the tensor and the index of the fault, and the total length and the number of fully masked rows (blind rows) of a call that is done.
 -- Definitions only.
-use Rattle.std.specs.Prelude.{ℕ}
+use Rattle.std.specs.Prelude.{ℕ, Result, Ok, Err}
 use Rattle.call.specs.declared.Refusal.{Refusal}
 use Rattle.call.specs.declared.Refusal.TheVariants.{Limits, HeadGroups, Settings, MaskShape, InputLength, OutputLength, LiveCount, MaskCell, Element, Position, Profile, Record, Room}
-use Rattle.call.specs.declared.Answer.{Answer}
-use Rattle.call.specs.declared.Answer.TheVariants.{Done, NotDone}
+use Rattle.call.specs.declared.Done.{Done}
 
 abbrev pub number_of : Refusal → ℕ
 number_of Limits = 1
@@ -55,6 +54,13 @@ place_of Room = 0
 
 -- ---- an answer
 
+-- done, or the refusal
+abbrev pub Answer : Type 0
+Answer = Result Done Refusal
+
+abbrev pub done_of : (total masked : ℕ) → Answer
+done_of total masked = Ok (record { total = total; masked = masked })
+
 pub record Report : Type 0 where
   pub number : ℕ
   pub tensor : ℕ
@@ -63,5 +69,5 @@ pub record Report : Type 0 where
   pub masked : ℕ
 
 abbrev pub report_of : Answer → Report
-report_of (Done total masked) = record { number = 0; tensor = 0; index = 0; total = total; masked = masked }
-report_of (NotDone r) = record { number = number_of r; tensor = fault_tensor_of r; index = place_of r; total = 0; masked = 0 }
+report_of (Ok d) = record { number = 0; tensor = 0; index = 0; total = d.total; masked = d.masked }
+report_of (Err r) = record { number = number_of r; tensor = fault_tensor_of r; index = place_of r; total = 0; masked = 0 }

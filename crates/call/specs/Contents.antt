@@ -1,5 +1,5 @@
 -- Refusals 7 to 9: the live counts, the mask's cells and the elements, each searched from its start. Definitions only.
-use Rattle.std.specs.Prelude.{List, [], ◌∷◌, ℕ, suc, ◌+◌, ◌/◌, Bool, true, false, not, ◌&&◌, cond, ℤ, pos, negsuc, ltb, get_or, Float}
+use Rattle.std.specs.Prelude.{List, [], ◌∷◌, ℕ, suc, ◌+◌, ◌/◌, Bool, true, false, not, ◌&&◌, cond, ℤ, pos, negsuc, ltb, get_or, Float, Option, Some, None}
 use Rattle.std.specs.Float.{nan, inf, fin}
 use Rattle.std.specs.Float.Ieee.{le, neg}
 use Rattle.tensor_laws.specs.Layout.{batch_at, position_at}
@@ -10,18 +10,13 @@ use Rattle.call.specs.Limits.{total_of}
 
 -- ---- a search
 
--- the first index at fault, or none
-pub data Found : Type 0 where
-  nothing : Found
-  at : ℕ → Found
-
--- the first index, counted from i, whose element is at fault
-unfoldable pub first_from : {A : Type 0} → (ℕ → A → Bool) → ℕ → List A → Found
-first_from fault i [] = nothing
-first_from fault i (x ∷ xs) = let later = first_from fault (suc i) xs in cond (fault i x) (at i) later
+-- the first index, counted from i, whose element is at fault, or none
+unfoldable pub first_from : {A : Type 0} → (ℕ → A → Bool) → ℕ → List A → Option ℕ
+first_from fault i [] = None
+first_from fault i (x ∷ xs) = let later = first_from fault (suc i) xs in cond (fault i x) (Some i) later
 
 -- the first index whose element is at fault
-unfoldable pub first_fault : {A : Type 0} → (ℕ → A → Bool) → List A → Found
+unfoldable pub first_fault : {A : Type 0} → (ℕ → A → Bool) → List A → Option ℕ
 unfolding first_from
 first_fault fault xs = first_from fault 0 xs
 
@@ -31,7 +26,7 @@ abbrev pub count_fault : ℕ → ℤ → Bool
 count_fault total (pos n) = ltb total n
 count_fault total (negsuc n) = true
 
-unfoldable pub live_fault : Call → List ℤ → Found
+unfoldable pub live_fault : Call → List ℤ → Option ℕ
 unfolding first_fault
 live_fault c live = first_fault (λ i n. count_fault (total_of c) n) live
 
@@ -45,11 +40,11 @@ cell_fault nan = true
 cell_fault (inf s) = not s
 cell_fault (fin s m e) = false
 
-unfoldable pub byte_mask_fault : List ℕ → Found
+unfoldable pub byte_mask_fault : List ℕ → Option ℕ
 unfolding first_fault
 byte_mask_fault mask = first_fault (λ i x. byte_fault x) mask
 
-unfoldable pub float_mask_fault : List Float → Found
+unfoldable pub float_mask_fault : List Float → Option ℕ
 unfolding first_fault
 float_mask_fault mask = first_fault (λ i x. cell_fault x) mask
 
@@ -76,7 +71,7 @@ abbrev pub live_of : Call → List ℤ → ℕ → ℕ
 live_of c live b = live_in c.form (total_of c) live b
 
 -- the first element at fault of a whole tensor
-unfoldable pub tensor_fault : List Float → Found
+unfoldable pub tensor_fault : List Float → Option ℕ
 unfolding first_fault element_fault
 tensor_fault t = first_fault (λ i x. element_fault x) t
 
@@ -87,6 +82,6 @@ looked_at c live size i =
     ltb (c.past + position_at c.rank c.kvheads c.klen n) (live_of c live (batch_at c.kvheads c.klen n))
 
 -- the first element at fault of K or V, padded positions not looked at
-unfoldable pub incoming_fault : Call → List ℤ → ℕ → List Float → Found
+unfoldable pub incoming_fault : Call → List ℤ → ℕ → List Float → Option ℕ
 unfolding first_fault element_fault
 incoming_fault c live size t = first_fault (λ i x. looked_at c live size i && element_fault x) t

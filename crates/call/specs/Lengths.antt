@@ -1,12 +1,10 @@
 -- Refusals 5 and 6: every lent tensor has exactly the product of its dimensions, and a tensor that the form, the mask kind or the score mode does not use is empty. Definitions only.
-use Rattle.std.specs.Prelude.{ℕ, ◌*◌, Bool, ◌&&◌, eqb, length}
+use Rattle.std.specs.Prelude.{ℕ, ◌*◌, Bool, ◌&&◌, eqb, length, Option, Some, None}
 use Rattle.call.specs.declared.Call.{Call}
 use Rattle.call.specs.declared.Form.{Form}
 use Rattle.call.specs.declared.Form.TheVariants.{Plain, Cached, Counted}
 use Rattle.call.specs.declared.MaskKind.{MaskKind}
 use Rattle.call.specs.declared.MaskKind.TheVariants.{NoMask, Boolean, FloatMask}
-use Rattle.call.specs.declared.ScoreMode.{ScoreMode}
-use Rattle.call.specs.declared.ScoreMode.TheVariants.{NoScores, Mode}
 use Rattle.call.specs.Limits.{total_of}
 use Rattle.call.specs.Tensors.{Inputs, Outputs}
 
@@ -31,9 +29,9 @@ in_float NoMask n = 0
 in_float Boolean n = 0
 in_float FloatMask n = n
 
-abbrev pub in_scores : ScoreMode → ℕ → ℕ
-in_scores NoScores n = 0
-in_scores (Mode m) n = n
+abbrev pub in_scores : Option ℕ → ℕ → ℕ
+in_scores None n = 0
+in_scores (Some m) n = n
 
 -- ---- the lengths
 

@@ -2,6 +2,7 @@
 use Rattle.std.specs.Prelude.{List, ℕ, ℤ, Float}
 use Rattle.std.specs.Borrow.{Bor, MutBor}
 use denote.Triple.Both.{Both}
+use Rattle.call.specs.declared.LentInputs.{LentInputs}
 use Rattle.call.specs.Tensors.{Inputs, Outputs, inputs_of, outputs_of}
 
 -- a slice that is read, in a `requires`, and in an `ensures`
@@ -28,6 +29,10 @@ abbrev pub inputs_now : (query key value : Slice Float) → (bool_mask : Slice �
 inputs_now query key value bool_mask float_mask past_key past_value live =
     inputs_of query.now key.now value.now bool_mask.now float_mask.now past_key.now past_value.now live.now
 
+-- the same of tensors that are lent together
+abbrev pub lent_now : LentInputs → Inputs
+lent_now x = inputs_now x.query x.key x.value x.boolmask x.floatmask x.pastkey x.pastvalue x.live
+
 abbrev pub outputs_now : (output present_key present_value scores work : SliceMut Float) → Outputs
 outputs_now output present_key present_value scores work = outputs_of output.now present_key.now present_value.now scores.now work.now
 
@@ -36,6 +41,9 @@ outputs_now output present_key present_value scores work = outputs_of output.now
 abbrev pub inputs_given : (query key value : Lent Float) → (bool_mask : Lent ℕ) → (float_mask past_key past_value : Lent Float) → (live : Lent ℤ) → Inputs
 inputs_given query key value bool_mask float_mask past_key past_value live =
     inputs_now query.entry key.entry value.entry bool_mask.entry float_mask.entry past_key.entry past_value.entry live.entry
+
+abbrev pub lent_given : Both LentInputs LentInputs → Inputs
+lent_given x = lent_now x.entry
 
 abbrev pub outputs_before : (output present_key present_value scores work : LentMut Float) → Outputs
 outputs_before output present_key present_value scores work =

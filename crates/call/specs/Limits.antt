@@ -1,5 +1,5 @@
 -- Refusals 1 to 4, which look at the call record alone: dimensions, head groups, settings, and the mask's dimensions. Definitions only.
-use Rattle.std.specs.Prelude.{ℕ, ◌+◌, ◌%◌, Bool, true, false, ◌&&◌, ◌||◌, pos, leb, eqb, Float}
+use Rattle.std.specs.Prelude.{ℕ, ◌+◌, ◌%◌, Bool, true, false, ◌&&◌, ◌||◌, pos, leb, eqb, Float, Option, Some, None}
 use Rattle.std.specs.Float.{fin}
 use Rattle.std.specs.Float.Ieee.{lt, le}
 use Rattle.call.specs.declared.Call.{Call}
@@ -9,8 +9,6 @@ use Rattle.call.specs.declared.MaskKind.{MaskKind}
 use Rattle.call.specs.declared.MaskKind.TheVariants.{NoMask, Boolean, FloatMask}
 use Rattle.call.specs.declared.Scale.{Scale}
 use Rattle.call.specs.declared.Scale.TheVariants.{Absent, Given}
-use Rattle.call.specs.declared.ScoreMode.{ScoreMode}
-use Rattle.call.specs.declared.ScoreMode.TheVariants.{NoScores, Mode}
 
 -- T = P + Sk, a sum of whole numbers
 abbrev pub total_of : Call → ℕ
@@ -74,9 +72,9 @@ rank_allowed rank = eqb rank 3 || eqb rank 4
 abbrev pub causal_allowed : ℕ → Bool
 causal_allowed causal = leb causal 1
 
-abbrev pub mode_allowed : ScoreMode → Bool
-mode_allowed NoScores = true
-mode_allowed (Mode m) = leb m 3
+abbrev pub mode_allowed : Option ℕ → Bool
+mode_allowed None = true
+mode_allowed (Some m) = leb m 3
 
 -- a given scale is above 0 and at most 1,024, so it is a number
 abbrev pub scale_allowed : Scale → Bool

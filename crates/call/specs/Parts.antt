@@ -1,13 +1,12 @@
 -- A call record from its parts. Definitions only.
-use Rattle.std.specs.Prelude.{ℕ, Float}
+use Rattle.std.specs.Prelude.{ℕ, Float, Option}
 use Rattle.call.specs.declared.Call.{Call}
 use Rattle.call.specs.declared.Form.{Form}
 use Rattle.call.specs.declared.MaskKind.{MaskKind}
 use Rattle.call.specs.declared.Scale.{Scale}
-use Rattle.call.specs.declared.ScoreMode.{ScoreMode}
 
 -- the kinds, the scale and the cap; rank and causal flag; B, Hq, Hkv; Sq, Sk, P; D, Dv; the mask's dimensions
-abbrev pub call_with : Form → MaskKind → Scale → Float → ScoreMode → (rank causal batches qheads kvheads qlen klen past size vsize maskb maskh maskq maskk : ℕ) → Call
+abbrev pub call_with : Form → MaskKind → Scale → Float → Option ℕ → (rank causal batches qheads kvheads qlen klen past size vsize maskb maskh maskq maskk : ℕ) → Call
 call_with form mask scale softcap mode rank causal batches qheads kvheads qlen klen past size vsize maskb maskh maskq maskk = record {
   form = form;
   mask = mask;

@@ -1,12 +1,10 @@
 -- The two entries, and refusal 10: the general entry takes every record, and the step entry those of its profile. Definitions only.
-use Rattle.std.specs.Prelude.{Bool, true, false, ◌&&◌, eqb}
+use Rattle.std.specs.Prelude.{Bool, true, false, ◌&&◌, eqb, Option, Some, None, ℕ}
 use Rattle.call.specs.declared.Call.{Call}
 use Rattle.call.specs.declared.Form.{Form}
 use Rattle.call.specs.declared.Form.TheVariants.{Plain, Cached, Counted}
 use Rattle.call.specs.declared.MaskKind.{MaskKind}
 use Rattle.call.specs.declared.MaskKind.TheVariants.{NoMask, Boolean, FloatMask}
-use Rattle.call.specs.declared.ScoreMode.{ScoreMode}
-use Rattle.call.specs.declared.ScoreMode.TheVariants.{NoScores, Mode}
 
 -- the general entry, and the one for a decode step
 pub data Entry : Type 0 where
@@ -23,9 +21,9 @@ is_unmasked NoMask = true
 is_unmasked Boolean = false
 is_unmasked FloatMask = false
 
-abbrev pub is_unscored : ScoreMode → Bool
-is_unscored NoScores = true
-is_unscored (Mode m) = false
+abbrev pub is_unscored : Option ℕ → Bool
+is_unscored None = true
+is_unscored (Some m) = false
 
 -- the step profile: one position of one batch, cached, causal and of rank 4, without a mask and without scores; everything else in the record is free
 unfoldable pub profile_holds : Call → Bool

@@ -1,32 +1,34 @@
 -- The refusals in their order, as a list of links: the first that refuses gives the answer, and a call is accepted where none does. Definitions only.
-use Rattle.std.specs.Prelude.{◌≡◌, List, [], ◌∷◌, ◌++◌, ℕ, ◌<◌, Bool, true, false}
+use Rattle.std.specs.Prelude.{◌≡◌, List, [], ◌∷◌, ◌++◌, ℕ, ◌<◌, Bool, true, false, Option, Some, None, Result, Ok, Err}
 use Rattle.call.specs.declared.Call.{Call}
 use Rattle.call.specs.declared.Refusal.{Refusal}
 use Rattle.call.specs.declared.Refusal.TheVariants.{Limits, HeadGroups, Settings, MaskShape, InputLength, OutputLength, LiveCount, MaskCell, Element, Profile}
-use Rattle.call.specs.declared.Verdict.{Verdict}
-use Rattle.call.specs.declared.Verdict.TheVariants.{Accepted, Refused}
 use Rattle.call.specs.Answers.{number_of}
 use Rattle.call.specs.Tensors.{Inputs, Outputs}
 use Rattle.call.specs.Limits.{limits_hold, groups_hold, settings_hold, mask_shape_holds}
 use Rattle.call.specs.Lengths.{inputs_fit, outputs_fit}
-use Rattle.call.specs.Contents.{Found, nothing, at, live_fault, byte_mask_fault, float_mask_fault, tensor_fault, incoming_fault}
+use Rattle.call.specs.Contents.{live_fault, byte_mask_fault, float_mask_fault, tensor_fault, incoming_fault}
 use Rattle.call.specs.Profile.{Entry, general, step, profile_holds}
+
+-- what a check tells: accepted, or refused with a refusal
+abbrev pub Verdict : Type 0
+Verdict = Result (Unit {0}) Refusal
 
 -- accepted where the test holds, and refused otherwise
 abbrev pub unless : Bool → Refusal → Verdict
-unless true r = Accepted
-unless false r = Refused r
+unless true r = Ok tt
+unless false r = Err r
 
 -- accepted where nothing is found, and refused for the index otherwise
-abbrev pub where_found : Found → (ℕ → Refusal) → Verdict
-where_found nothing r = Accepted
-where_found (at i) r = Refused (r i)
+abbrev pub where_found : Option ℕ → (ℕ → Refusal) → Verdict
+where_found None r = Ok tt
+where_found (Some i) r = Err (r i)
 
 -- the first refusal of two
 infixr 20 ◌then◌
 abbrev pub ◌then◌ : Verdict → Verdict → Verdict
-Accepted then v = v
-Refused r then v = Refused r
+(Ok u) then v = v
+Err r then v = Err r
 
 -- ---- a link: a refusal with its test, or with its search and a place
 
@@ -34,7 +36,7 @@ pub data Link : Type 0 where
   -- given where the test fails
   test : Refusal → Bool → Link
   -- given for the first index found
-  scan : (ℕ → Refusal) → Found → Link
+  scan : (ℕ → Refusal) → Option ℕ → Link
 
 abbrev pub verdict_by : Link → Verdict
 verdict_by (test r holds) = unless holds r
@@ -42,18 +44,18 @@ verdict_by (scan r found) = where_found found r
 
 -- the first refusal of a list
 unfoldable pub first_of : List Link → Verdict
-first_of [] = Accepted
+first_of [] = Ok tt
 first_of (l ∷ ls) = verdict_by l then first_of ls
 
 -- the link refuses nothing
 abbrev pub Passes : Link → Type 0
 Passes (test r holds) = holds ≡ true
-Passes (scan r found) = found ≡ nothing
+Passes (scan r found) = found ≡ None
 
 -- the link gives that refusal: its test fails, or its search found an index, which the refusal names
 abbrev pub Gives : Link → Refusal → Type 0
 Gives (test r holds) a = (holds ≡ false) × (a ≡ r)
-Gives (scan r found) a = (i : ℕ) × (found ≡ at i) × (a ≡ r i)
+Gives (scan r found) a = (i : ℕ) × (found ≡ Some i) × (a ≡ r i)
 
 -- no link refuses
 abbrev pub Clear : List Link → Type 0

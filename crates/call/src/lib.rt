@@ -1,4 +1,4 @@
-// The call record of attention, its enums, and the answer. Every number may be anything that its type holds.
+// The call record of attention, its enums, the refusals, and what a call that is done answers. Every number may be anything that its type holds.
 #![tactic(auto)]
 
 // The limits of B, of Hq and Hkv, of Sq, Sk and T, and of D and Dv.
@@ -25,17 +25,11 @@ pub enum MaskKind {
     FloatMask,
 }
 
+// As given, or absent.
 #[derive(Clone, Copy)]
 pub enum Scale {
     Absent,
     Given(f32),
-}
-
-// Which scores are shown (ONNX: qk_matmul_output_mode).
-#[derive(Clone, Copy)]
-pub enum ScoreMode {
-    NoScores,
-    Mode(usize),
 }
 
 #[derive(Clone, Copy)]
@@ -45,7 +39,8 @@ pub struct Call {
     pub scale: Scale,
     // 0 of either sign for no cap (ONNX: softcap)
     pub softcap: f32,
-    pub mode: ScoreMode,
+    // which scores are shown, or none (ONNX: qk_matmul_output_mode)
+    pub mode: Option<usize>,
     pub rank: usize,
     // 0 or 1 (ONNX: is_causal)
     pub causal: usize,
@@ -70,6 +65,23 @@ pub struct Call {
     pub maskh: usize,
     pub maskq: usize,
     pub maskk: usize,
+}
+
+// The tensors that a call reads. Those that it writes stay parameters of their own: a struct of `&mut` slices that is passed on needs a clause for each of them, in every contract, that it still is the same slice.
+#[derive(Clone, Copy)]
+pub struct LentInputs<'a> {
+    // Q, K and V
+    pub query: &'a [f32],
+    pub key: &'a [f32],
+    pub value: &'a [f32],
+    // the two masks
+    pub boolmask: &'a [u8],
+    pub floatmask: &'a [f32],
+    // the past caches
+    pub pastkey: &'a [f32],
+    pub pastvalue: &'a [f32],
+    // the live counts (ONNX: nonpad_kv_seqlen)
+    pub live: &'a [i64],
 }
 
 // Why a call, an entry or a file is refused, with the place of the fault where one is searched for. The numbers and places are those of `specs/Answers.antt`.
@@ -103,16 +115,9 @@ pub enum Refusal {
     Room,
 }
 
-// What a call answers: done, with the total length and the number of fully masked rows (blind rows), or the first refusal that applies.
+// What a call that is done answers: the total length and the number of fully masked rows (blind rows). One that is not answers the first refusal that applies.
 #[derive(Clone, Copy)]
-pub enum Answer {
-    Done { total: usize, masked: usize },
-    NotDone(Refusal),
-}
-
-// Whether a call is accepted, or refused.
-#[derive(Clone, Copy)]
-pub enum Verdict {
-    Accepted,
-    Refused(Refusal),
+pub struct Done {
+    pub total: usize,
+    pub masked: usize,
 }

@@ -8,22 +8,24 @@ mod calls;
 mod input;
 mod lines;
 
+use std::alloc::Global;
 use std::io;
 use std::io::{BufReader, BufWriter, Read, Write};
 
 // Makes the calls, of which there are as many as the first number says.
-fn run<R: Read, W: Write>(from: &mut R, to: &mut W) -> io::Result<()> {
+fn run<R: Read, W: Write>(alloc: Global, from: &mut R, to: &mut W) -> io::Result<()> {
     for _ in 0..input::number(from)? {
         input::copy_label(from, to)?;
         let call = input::record(from)?;
-        calls::finish(from, to, call)?;
+        calls::finish(alloc, from, to, call)?;
     }
     to.flush()
 }
 
-// Ends with an error where a read or a write fails.
+// Ends with an error where a read, a write or an allocation fails.
 fn main(rt: HostRuntime) -> io::Result<()> {
-    let mut from = BufReader::new(rt.alloc(), rt.reader())?;
-    let mut to = BufWriter::new(rt.alloc(), io::writer(&rt))?;
-    run(&mut from, &mut to)
+    let alloc = rt.alloc();
+    let mut from = BufReader::new(alloc, rt.reader())?;
+    let mut to = BufWriter::new(alloc, io::writer(&rt))?;
+    run(alloc, &mut from, &mut to)
 }

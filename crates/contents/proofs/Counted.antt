@@ -1,4 +1,5 @@
 -- A counted call to which refusals 1 and 7 do not apply: its past is 0, and no live count is above Sk. The length of K or V by its groups. Assumes nothing.
+use Rattle.std.specs.Prelude.{None}
 use mathlib.Core.Path.{◌≡◌, ap, ◌∙◌, subst}
 use mathlib.Core.Bool.{true}
 use mathlib.Core.List.{List}
@@ -13,7 +14,7 @@ use Rattle.call.specs.declared.Form.{Form}
 use Rattle.call.specs.declared.Form.TheVariants.{Counted}
 use Rattle.call.specs.Limits.{total_of, past_allowed, limits_hold}
 use Rattle.call.specs.Lengths.{in_counted, live_length}
-use Rattle.call.specs.Contents.{nothing, count_of, live_in, live_of, live_fault}
+use Rattle.call.specs.Contents.{count_of, live_in, live_of, live_fault}
 use Rattle.call.proofs.Facts.{past_allowed_lem}
 use Rattle.call.proofs.Clear.{count_most, live→clear}
 
@@ -21,7 +22,7 @@ module _ (c : Call) (limits : limits_hold c ≡ true) (counted : c.form ≡ Coun
   pub no_past : c.past ≡ 0
   no_past = eqb→eq c.past 0 (subst (λ (f : Form). T (past_allowed f c.past)) counted (past_allowed_lem c limits))
 
-  pub live_most : (live : List ℤ) → length live ≡ live_length c → live_fault c live ≡ nothing → (b : ℕ) → b < c.batches → live_of c live b ≤ c.klen
+  pub live_most : (live : List ℤ) → length live ≡ live_length c → live_fault c live ≡ None → (b : ℕ) → b < c.batches → live_of c live b ≤ c.klen
   live_most live n e b h =
       let p = no_past in
       let m : length live ≡ c.batches = n ∙ ap (λ (f : Form). in_counted f c.batches) counted in

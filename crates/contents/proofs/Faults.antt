@@ -1,27 +1,29 @@
--- Faults by number: one more element of a count, and a count of 0 is a list with no fault. Assumes nothing.
-use mathlib.Core.Path.{◌≡◌, sym, ap, ◌∙◌}
+-- Faults by number: a count is a sum and at most the length, and a count of 0 is a list with no fault. Assumes nothing.
+use mathlib.Core.Path.{◌≡◌, refl}
 use mathlib.Core.List.{List, [], ◌∷◌}
-use Prim.Native.Nat.{ℕ, zero, suc, ◌+◌, ◌<◌}
-use native.Mathlib.Nat.{add_assoc, add-zero, zero-add, not-suc-le-zero, le_of_suc-le-suc}
-use native.Mathlib.Numerals.{add-one}
+use Prim.Native.Nat.{zero, suc, ◌≤◌}
+use native.Mathlib.Nat.{not-suc-le-zero, le_of_suc-le-suc}
 use native.Mathlib.Omega.{arith}
-use lib.ListN.{length, get_or, take}
-use lib.Ieee.{Float, nan}
-use Rattle.bool_laws.proofs.Counts.{tally_none}
+use lib.ListN.{length}
+use lib.Ieee.{Float}
+use Rattle.std.specs.List.{sum_by}
+use Rattle.std.proofs.lemmas.List.Recursion.{is_sum_by}
+use Rattle.bool_laws.proofs.Counts.{tally_none, tally_le}
 use Rattle.bool_laws.specs.Counts.{tally}
 use Rattle.call.specs.Contents.{element_fault}
 use Rattle.call.specs.Places.{TensorClear}
 use Rattle.contents.specs.Faults.{fault_count}
 
-count_suc : (xs : List Float) (i : ℕ) → i < length xs → fault_count (take i xs) + tally (element_fault (get_or xs i nan)) ≡ fault_count (take (suc i) xs)
+-- the count is a sum of ones and zeros
+pub count_sum : (xs : List Float) → fault_count xs ≡ sum_by (λ x. tally (element_fault x)) xs
 unfolding fault_count
-count_suc [] i h = absurd (not-suc-le-zero h)
-count_suc (x ∷ xs) zero h = zero-add (tally (element_fault x)) ∙ sym (add-zero (tally (element_fault x)))
-count_suc (x ∷ xs) (suc i) h = add_assoc _ _ _ ∙ ap (λ (n : ℕ). tally (element_fault x) + n) (count_suc xs i (le_of_suc-le-suc h))
+count_sum xs = is_sum_by fault_count (λ x. tally (element_fault x)) refl (λ _ _. refl) xs
 
--- one more element
-pub count_next : (xs : List Float) (i : ℕ) → i < length xs → fault_count (take i xs) + tally (element_fault (get_or xs i nan)) ≡ fault_count (take (i + 1) xs)
-count_next xs i h = count_suc xs i h ∙ ap (λ (n : ℕ). fault_count (take n xs)) (sym (add-one i))
+-- no more are counted than there are
+pub count_le : (xs : List Float) → fault_count xs ≤ length xs
+unfolding fault_count
+count_le [] = omega arith
+count_le (x ∷ xs) = omega (arith, tally_le (element_fault x), count_le xs)
 
 -- no faults are counted where none is
 pub count_none : (xs : List Float) → fault_count xs ≡ 0 → TensorClear xs

@@ -1,4 +1,5 @@
 -- K and V of a counted call as groups of which a prefix is looked at: which indices of a group are looked at, and that they are the positions below the live count, at either rank. Assumes nothing.
+use Rattle.std.specs.Prelude.{Some, None}
 use mathlib.Core.Path.{◌≡◌, refl, sym, ap, ◌∙◌}
 use mathlib.Core.Bool.{Bool, true, false, ◌&&◌, cond, and-false}
 use mathlib.Core.List.{List}
@@ -17,7 +18,7 @@ use Rattle.call.specs.declared.Call.{Call}
 use Rattle.call.specs.declared.Form.{Form}
 use Rattle.call.specs.declared.Form.TheVariants.{Plain, Cached}
 use Rattle.call.specs.Limits.{total_of}
-use Rattle.call.specs.Contents.{nothing, at, element_fault, tensor_fault, live_in, live_of, looked_at, incoming_fault}
+use Rattle.call.specs.Contents.{element_fault, tensor_fault, live_in, live_of, looked_at, incoming_fault}
 use Rattle.call.proofs.Search.{clear→nothing, first→found, fault_same}
 use Rattle.contents.specs.Faults.{in_prefix, prefix_fault}
 
@@ -60,12 +61,12 @@ group_inside {g} {groups} span h = let m : (g + 1) * span ≤ groups * span = mu
 
 module _ (c : Call) (live : List ℤ) (heads unit : ℕ) (t : List Float) where
   -- nothing is found where nothing is both looked at and at fault, and otherwise the first such index
-  pub clear→prefix : ((k : ℕ) → k < length t → (in_prefix c live heads unit k && element_fault (get_or t k nan)) ≡ false) → prefix_fault c live heads unit t ≡ nothing
+  pub clear→prefix : ((k : ℕ) → k < length t → (in_prefix c live heads unit k && element_fault (get_or t k nan)) ≡ false) → prefix_fault c live heads unit t ≡ None
   unfolding prefix_fault
   clear→prefix h = clear→nothing (λ k z. in_prefix c live heads unit k && element_fault z) nan t h
 
   pub first→prefix : (n : ℕ) → n < length t → (in_prefix c live heads unit n && element_fault (get_or t n nan)) ≡ true
-      → ((k : ℕ) → k < n → (in_prefix c live heads unit k && element_fault (get_or t k nan)) ≡ false) → prefix_fault c live heads unit t ≡ at n
+      → ((k : ℕ) → k < n → (in_prefix c live heads unit k && element_fault (get_or t k nan)) ≡ false) → prefix_fault c live heads unit t ≡ Some n
   unfolding prefix_fault
   first→prefix n h f b = first→found (λ k z. in_prefix c live heads unit k && element_fault z) nan t n h f b
 

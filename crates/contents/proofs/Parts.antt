@@ -1,45 +1,19 @@
 -- A part of a tensor, from index a to index e: what a search of the part says of the tensor. Assumes nothing.
+use Rattle.std.specs.Prelude.{Option, Some, None}
 use mathlib.Core.Path.{◌≡◌, refl, sym, ap, ◌∙◌}
 use mathlib.Core.Bool.{Bool, true, false}
 use mathlib.Core.List.{List}
 use Prim.Native.Nat.{ℕ, ◌+◌, ◌-◌, ◌≤◌, ◌<◌}
 use native.Mathlib.Omega.{arith}
-use borrow.Author.Tests.{ltb-true, ltb-false, lt-ltb, le-ltb}
+use borrow.Author.Tests.{ltb-true, ltb-false}
 use lib.Dec.{ltb}
 use lib.ListN.{length, get_or, take, drop, length-take, length-drop}
 use lib.Seq.{get_or-take, get_or-drop}
 use lib.Ieee.{Float, nan}
-use Rattle.call.specs.Contents.{Found, nothing, at, element_fault, tensor_fault}
+use Rattle.std.specs.Option.{option_map}
+use Rattle.call.specs.Contents.{element_fault, tensor_fault}
 use Rattle.call.specs.Places.{TensorClear}
 use Rattle.call.proofs.Clear.{tensor→clear, clear→tensor, tensor→first, first→tensor}
-use Rattle.contents.specs.Faults.{index_or, found_below}
-
--- ---- the index that a search returns
-
--- an index below the length was found
-pub index_found : (f : Found) {i n : ℕ} → i ≡ index_or f n → i < n → f ≡ at i
-index_found nothing e h = absurd (omega arith)
-index_found (at j) e h = ap at (sym e)
-
--- the length stands for nothing
-pub index_none : (t : List Float) {i : ℕ} → i ≡ index_or (tensor_fault t) (length t) → length t ≤ i → tensor_fault t ≡ nothing
-index_none t {i} e h = by_found (tensor_fault t) refl
-  where
-    by_found : (f : Found) → tensor_fault t ≡ f → tensor_fault t ≡ nothing
-    by_found nothing p = p
-    by_found (at j) p = let s = (tensor→first t j p).inside in let q : i ≡ j = e ∙ ap (λ (f : Found). index_or f (length t)) p in absurd (omega arith)
-
-pub index_most : (t : List Float) → index_or (tensor_fault t) (length t) ≤ length t
-index_most t = by_found (tensor_fault t) refl
-  where
-    by_found : (f : Found) → tensor_fault t ≡ f → index_or f (length t) ≤ length t
-    by_found nothing p = omega arith
-    by_found (at j) p = omega (arith, (tensor→first t j p).inside)
-
--- the verdict by the index is that by what was found, which is below the length
-pub below_index : (f : Found) {i n : ℕ} → i ≡ index_or f n → ((j : ℕ) → f ≡ at j → j < n) → found_below i n ≡ f
-below_index nothing {i} {n} e h = rw (le-ltb i n (omega arith))
-below_index (at j) {i} {n} e h = rw (e, lt-ltb j n (h j refl))
 
 -- ---- parts
 
@@ -74,7 +48,7 @@ module _ (a e : ℕ) (t : List Float) (start : a ≤ e) (end : e ≤ length t) w
     pub faulty : element_fault (get_or t (a + j) nan) ≡ true
     pub before : (k : ℕ) → a ≤ k → k < a + j → element_fault (get_or t k nan) ≡ false
 
-  pub part_first : (j : ℕ) → tensor_fault (part a e t) ≡ at j → FirstFrom j
+  pub part_first : (j : ℕ) → tensor_fault (part a e t) ≡ Some j → FirstFrom j
   part_first j p =
       let f = tensor→first (part a e t) j p in
       let n = length_part in
@@ -86,15 +60,14 @@ module _ (a e : ℕ) (t : List Float) (start : a ≤ e) (end : e ≤ length t) w
       }
 
 -- where nothing before a is at fault, the search goes on from there
-pub rest_index : (a : ℕ) (t : List Float) → a ≤ length t → ((k : ℕ) → k < a → element_fault (get_or t k nan) ≡ false)
-    → a + index_or (tensor_fault (part a (length t) t)) (length (part a (length t) t)) ≡ index_or (tensor_fault t) (length t)
-rest_index a t start clear = by_found (tensor_fault (part a (length t) t)) refl
+pub rest_found : (a : ℕ) (t : List Float) → a ≤ length t → ((k : ℕ) → k < a → element_fault (get_or t k nan) ≡ false)
+    → option_map (λ (j : ℕ). a + j) (tensor_fault (part a (length t) t)) ≡ tensor_fault t
+rest_found a t start clear = by_found (tensor_fault (part a (length t) t)) refl
   where
-    by_found : (f : Found) → tensor_fault (part a (length t) t) ≡ f → a + index_or (tensor_fault (part a (length t) t)) (length (part a (length t) t)) ≡ index_or (tensor_fault t) (length t)
-    by_found nothing p =
-        let n = length_part a (length t) t start (omega arith) in
+    by_found : (f : Option ℕ) → tensor_fault (part a (length t) t) ≡ f → option_map (λ (j : ℕ). a + j) f ≡ tensor_fault t
+    by_found None p =
         let all = below_both (λ k. element_fault (get_or t k nan) ≡ false) a (length t) clear (part_clear a (length t) t start (omega arith) (tensor→clear _ p)) in
-        rw (p, clear→tensor t all) (omega arith)
-    by_found (at j) p =
+        sym (clear→tensor t all)
+    by_found (Some j) p =
         let f = part_first a (length t) t start (omega arith) j p in
-        rw (p, first→tensor t (a + j) f.inside f.faulty (below_both (λ k. element_fault (get_or t k nan) ≡ false) a (a + j) clear f.before))
+        sym (first→tensor t (a + j) f.inside f.faulty (below_both (λ k. element_fault (get_or t k nan) ≡ false) a (a + j) clear f.before))

@@ -1,25 +1,18 @@
 // Refusal 7: the live counts, searched from their start; and the live count as the rows use it.
 #![tactic(auto)]
 
-ghost use Rattle.std.specs.Prelude.{◌≡◌, ◌≤◌, ◌<◌, length};
-ghost use Rattle.call.specs.declared.Refusal.TheVariants.{LiveCount};
+ghost use Rattle.std.specs.Prelude.{◌≡◌, position, ◌≤◌, ◌<◌, length};
 ghost use Rattle.call.specs.Limits.{total_of};
-ghost use Rattle.call.specs.Contents.{count_of, count_fault, live_fault};
-ghost use Rattle.call.specs.Refusals.{where_found};
+ghost use Rattle.call.specs.Contents.{count_of, count_fault, live_fault, live_of};
 ghost use Rattle.call.specs.Lengths.{live_length};
-ghost use Rattle.call.specs.Contents.{live_fault, live_of};
-ghost use Rattle.call.specs.Contents.{live_of};
 
-use call::{Call, Form, Refusal, Verdict};
+use call::{Call, Form};
 
 // A live count as a number of positions; 0 where it is below 0.
 pub fn count_of(count: i64) -> usize
     ensures { result ≡ count_of count }
 {
-    if count < 0 {
-        return 0;
-    }
-    count as usize
+    usize::try_from(count).unwrap_or(0)
 }
 
 // A live count below 0 or above T.
@@ -32,19 +25,19 @@ fn count_fault(total: usize, count: i64) -> bool
     total < count_of(count)
 }
 
-pub fn live_counts(call: Call, live: &[i64]) -> Verdict
-    requires { total_of call ≤ 2048 }
-    ensures { result ≡ where_found (live_fault call live.now) LiveCount }
+fn first_fault(total: usize, live: &[i64]) -> Option<usize>
+    ensures { result ≡ position (λ n. count_fault total n) live.now }
 {
-    let total = call.past + call.klen;
-    let mut i = 0;
-    while i < live.len() {
-        if count_fault(total, live[i]) {
-            return Verdict::Refused(Refusal::LiveCount { index: i });
-        }
-        i += 1;
-    }
-    Verdict::Accepted
+    live.iter().position(|count| count_fault(total, *count))
+}
+
+// The first live count at fault.
+#[tactic(auto, using(call::proofs::Clear::live_position))]
+pub fn live_counts(call: Call, live: &[i64]) -> Option<usize>
+    requires { total_of call ≤ 2048 }
+    ensures { result ≡ live_fault call live.now }
+{
+    first_fault(call.past + call.klen, live)
 }
 
 // L of batch b: its live count in the counted form, T in any other.

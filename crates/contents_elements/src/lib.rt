@@ -1,21 +1,23 @@
 // Refusal 9 in one tensor, every element: a pass over blocks of 64 elements counts faults with no branch on an element, and stops at the first block that has one or before a last shorter one; only there is an index looked for.
 #![tactic(auto)]
 
-ghost use Rattle.std.specs.Prelude.{◌≡◌, length};
+ghost use Rattle.std.specs.Prelude.{◌≡◌, length, position};
 ghost use Rattle.bool_laws.specs.Counts.{tally};
 ghost use Rattle.call.specs.Contents.{element_fault, tensor_fault};
-ghost use Rattle.contents.specs.Faults.{fault_count, index_or};
+ghost use Rattle.contents.specs.Faults.{fault_count};
 
-// 1 where an element is not a number of magnitude at most 65,536, and 0 otherwise.
+// Whether an element is not a number of magnitude at most 65,536.
+fn element_fault(x: f32) -> bool
+    ensures { result ≡ element_fault x }
+{
+    !(-65536.0 <= x && x <= 65536.0)
+}
+
+// 1 where an element is at fault, and 0 otherwise.
 pub fn fault_number(x: f32) -> u32
     ensures { result ≡ tally (element_fault x) }
 {
-    if -65536.0 <= x {
-        if x <= 65536.0 {
-            return 0;
-        }
-    }
-    1
+    u32::from(element_fault(x))
 }
 
 // How many of 64 elements are at fault.
@@ -23,41 +25,27 @@ fn block_faults(block: &[f32]) -> u32
     requires { length block.now ≡ 64 }
     ensures { result ≡ fault_count block.now }
 {
-    let mut faults = 0;
-    let mut i = 0;
-    while i < 64 {
-        faults += fault_number(block[i]);
-        i += 1;
-    }
-    faults
+    block.iter().map(|x| fault_number(*x)).sum()
 }
 
-// The first index at fault, one element after the other, or the length where there is none.
-fn first_fault(tensor: &[f32]) -> usize
-    ensures { result ≡ index_or (tensor_fault tensor.now) (length tensor.now) }
+// The first index at fault, one element after the other.
+fn first_fault(tensor: &[f32]) -> Option<usize>
+    ensures { result ≡ position (λ x. element_fault x) tensor.now }
 {
-    let mut i = 0;
-    while i < tensor.len() {
-        if fault_number(tensor[i]) != 0 {
-            return i;
-        }
-        i += 1;
-    }
-    i
+    tensor.iter().position(|x| element_fault(*x))
 }
 
 // The same by blocks: those without a fault are passed, and the index is looked for after them.
-pub fn first_fault_by_blocks(tensor: &[f32]) -> usize
-    ensures { result ≡ index_or (tensor_fault tensor.now) (length tensor.now) }
+pub fn first_fault_by_blocks(tensor: &[f32]) -> Option<usize>
+    ensures { result ≡ tensor_fault tensor.now }
 {
     let mut at = 0;
-    while at + 64 <= tensor.len() {
-        let end = at + 64;
-        if block_faults(&tensor[at..end]) != 0 {
+    for block in tensor.chunks_exact(64) {
+        if block_faults(block) != 0 {
             break;
         }
-        at = end;
+        at += 64;
     }
-    let found = first_fault(&tensor[at..]);
-    at + found
+    let found = first_fault(&tensor[at..])?;
+    Some(at + found)
 }

@@ -5,47 +5,49 @@ ghost use Rattle.std.specs.Prelude.{◌≡◌, ◌≤◌, true, ℕ, ◌*◌, �
 ghost use Rattle.call.specs.Contents.{live_fault};
 ghost use Rattle.call.specs.Limits.{limits_hold};
 ghost use Rattle.call.specs.Lengths.{live_length};
-ghost use Rattle.call.specs.Contents.{nothing, live_fault, live_of, incoming_fault};
-ghost use Rattle.contents.specs.Faults.{index_or, prefix_fault};
+ghost use Rattle.call.specs.Contents.{live_fault, live_of, incoming_fault};
+ghost use Rattle.contents.specs.Faults.{prefix_fault};
 ghost use Rattle.call.specs.Contents.{live_of};
 
 use call::{Call, Form};
 
-// The first index at fault, or the length where there is none. The tensor is groups of Sk * unit elements, as many for each batch as `heads` says, and of a group the first L * unit are looked at.
-fn first_live_fault(call: Call, live: &[i64], tensor: &[f32], heads: usize, unit: usize) -> usize
+// The first index at fault. The tensor is groups of Sk * unit elements, as many for each batch as `heads` says, and of a group the first L * unit are looked at.
+fn first_live_fault(
+    call: Call,
+    live: &[i64],
+    tensor: &[f32],
+    heads: usize,
+    unit: usize,
+) -> Option<usize>
     requires call_value { limits_hold call ≡ true }
     requires live_len { length live.now ≡ live_length call }
     requires by_index { (b : ℕ) → b < call.batches → live_of call live.now b ≤ call.klen }
     requires le_heads { 1 ≤ heads }
     requires le_unit { 1 ≤ unit }
     requires tensor_len { length tensor.now ≡ call.batches * heads * (call.klen * unit) }
-    ensures { result ≡ index_or (prefix_fault call live.now heads unit tensor.now) (length tensor.now) }
+    ensures { result ≡ prefix_fault call live.now heads unit tensor.now }
 {
-    let groups = call.batches * heads;
     let span = call.klen * unit;
-    let mut group = 0;
-    while group < groups {
+    for group in 0..call.batches * heads {
         let start = group * span;
         let looked = contents_counts::live_count(call, live, group / heads) * unit;
         let end = start + looked;
-        let found = contents_elements::first_fault_by_blocks(&tensor[start..end]);
-        if found < looked {
-            return start + found;
+        if let Some(found) = contents_elements::first_fault_by_blocks(&tensor[start..end]) {
+            return Some(start + found);
         }
-        group += 1;
     }
-    tensor.len()
+    None
 }
 
 // At rank 4 a group is the rows of a batch and key head, and at rank 3 those of a batch, where each position has a row for every key head.
-fn first_counted_fault(call: Call, live: &[i64], size: usize, tensor: &[f32]) -> usize
+fn first_counted_fault(call: Call, live: &[i64], size: usize, tensor: &[f32]) -> Option<usize>
     requires call_value { limits_hold call ≡ true }
     requires past_value { call.past ≡ 0 }
     requires live_len { length live.now ≡ live_length call }
     requires by_index { (b : ℕ) → b < call.batches → live_of call live.now b ≤ call.klen }
     requires le_size { (1 ≤ size) × (size ≤ 256) }
     requires tensor_len { length tensor.now ≡ call.batches * call.kvheads * call.klen * size }
-    ensures { result ≡ index_or (incoming_fault call live.now size tensor.now) (length tensor.now) }
+    ensures { result ≡ incoming_fault call live.now size tensor.now }
 {
     if call.rank == 4 {
         return first_live_fault(call, live, tensor, call.kvheads, size);
@@ -54,13 +56,13 @@ fn first_counted_fault(call: Call, live: &[i64], size: usize, tensor: &[f32]) ->
 }
 
 // In a call that is not counted every position is looked at.
-pub fn first_incoming_fault(call: Call, live: &[i64], size: usize, tensor: &[f32]) -> usize
+pub fn first_incoming_fault(call: Call, live: &[i64], size: usize, tensor: &[f32]) -> Option<usize>
     requires call_value { limits_hold call ≡ true }
     requires live_len { length live.now ≡ live_length call }
-    requires live_value { live_fault call live.now ≡ nothing }
+    requires live_value { live_fault call live.now ≡ None }
     requires le_size { (1 ≤ size) × (size ≤ 256) }
     requires tensor_len { length tensor.now ≡ call.batches * call.kvheads * call.klen * size }
-    ensures { result ≡ index_or (incoming_fault call live.now size tensor.now) (length tensor.now) }
+    ensures { result ≡ incoming_fault call live.now size tensor.now }
 {
     let form = call.form;
     match form {

@@ -1,27 +1,18 @@
 // Refusal 8: the mask's cells, searched from their start; and refusals 7 and 8 in their order.
 #![tactic(auto)]
 
-ghost use Rattle.std.specs.Prelude.{◌≡◌, [], ◌≤◌};
-ghost use Rattle.call.specs.Tensors.{inputs_of};
-ghost use Rattle.call.specs.declared.Refusal.TheVariants.{MaskCell};
+ghost use Rattle.std.specs.Prelude.{◌≡◌, position, ◌≤◌};
+ghost use Rattle.call.specs.Lent.{lent_given};
 ghost use Rattle.call.specs.Limits.{total_of};
-ghost use Rattle.call.specs.Contents.{byte_mask_fault, cell_fault, float_mask_fault};
-ghost use Rattle.call.specs.Refusals.{where_found, cells_verdict};
-ghost use Rattle.call.specs.Refusals.{where_found};
+ghost use Rattle.call.specs.Contents.{byte_fault, cell_fault};
+ghost use Rattle.call.specs.Refusals.{cells_verdict};
 
-use call::{Call, Refusal, Verdict};
+use call::{Call, LentInputs, Refusal};
 
-fn mask_bytes(mask: &[u8]) -> Verdict
-    ensures { result ≡ where_found (byte_mask_fault mask.now) MaskCell }
+fn mask_bytes(mask: &[u8]) -> Option<usize>
+    ensures { result ≡ position (λ x. byte_fault x) mask.now }
 {
-    let mut i = 0;
-    while i < mask.len() {
-        if 1 < mask[i] {
-            return Verdict::Refused(Refusal::MaskCell { index: i });
-        }
-        i += 1;
-    }
-    Verdict::Accepted
+    mask.iter().position(|x| 1 < *x)
 }
 
 // NaN and plus infinity are the cells that are not below plus infinity.
@@ -31,30 +22,25 @@ fn cell_fault(x: f32) -> bool
     !(x < f32::from_bits(0x7f800000))
 }
 
-fn mask_cells(mask: &[f32]) -> Verdict
-    ensures { result ≡ where_found (float_mask_fault mask.now) MaskCell }
+fn mask_cells(mask: &[f32]) -> Option<usize>
+    ensures { result ≡ position (λ x. cell_fault x) mask.now }
 {
-    let mut i = 0;
-    while i < mask.len() {
-        if cell_fault(mask[i]) {
-            return Verdict::Refused(Refusal::MaskCell { index: i });
-        }
-        i += 1;
-    }
-    Verdict::Accepted
+    mask.iter().position(|x| cell_fault(*x))
 }
 
-pub fn cells_verdict(call: Call, boolmask: &[u8], floatmask: &[f32], live: &[i64]) -> Verdict
+#[tactic(auto, unfolding(call::specs::Refusals::cells_verdict, call::specs::Refusals::first_of), using(call::proofs::FirstLink::then_accepted, call::proofs::Clear::bytes_position, call::proofs::Clear::cells_position))]
+pub fn cells_verdict(call: Call, inputs: LentInputs<'_>) -> Result<(), Refusal>
     requires { total_of call ≤ 2048 }
-    ensures { result ≡ cells_verdict call (inputs_of [] [] [] boolmask.now floatmask.now [] [] live.now) }
+    ensures { result ≡ cells_verdict call (lent_given inputs) }
 {
-    let counts = contents_counts::live_counts(call, live);
-    if let Verdict::Refused(refusal) = counts {
-        return Verdict::Refused(refusal);
+    if let Some(index) = contents_counts::live_counts(call, inputs.live) {
+        return Err(Refusal::LiveCount { index });
     }
-    let bytes = mask_bytes(boolmask);
-    if let Verdict::Refused(refusal) = bytes {
-        return Verdict::Refused(refusal);
+    if let Some(index) = mask_bytes(inputs.boolmask) {
+        return Err(Refusal::MaskCell { index });
     }
-    mask_cells(floatmask)
+    match mask_cells(inputs.floatmask) {
+        Some(index) => Err(Refusal::MaskCell { index }),
+        None => Ok(()),
+    }
 }

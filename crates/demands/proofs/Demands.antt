@@ -1,4 +1,5 @@
 -- The entries' contracts, that answer and tensors are `attention_of` and `step_of` of what came in, give the three demands. Assumes nothing.
+use Rattle.std.specs.Prelude.{Ok, Err}
 use mathlib.Core.Path.{◌≡◌, refl, sym, ap, ◌∙◌, subst}
 use mathlib.Core.Logic.{◌⊎◌, inl, inr}
 use mathlib.Core.Bool.{Bool, true, false, true≢false}
@@ -8,10 +9,8 @@ use native.Mathlib.Omega.{arith}
 use Rattle.call.specs.declared.Call.{Call}
 use Rattle.call.specs.declared.Refusal.{Refusal}
 use Rattle.call.specs.declared.Refusal.TheVariants.{Profile}
-use Rattle.call.specs.declared.Answer.{Answer}
-use Rattle.call.specs.declared.Answer.TheVariants.{Done, NotDone}
-use Rattle.call.specs.declared.Verdict.{Verdict}
-use Rattle.call.specs.declared.Verdict.TheVariants.{Accepted, Refused}
+use Rattle.call.specs.Answers.{Answer, done_of}
+use Rattle.call.specs.Refusals.{Verdict}
 use Rattle.call.specs.Limits.{total_of}
 use Rattle.call.specs.Profile.{Entry, general, step, takes}
 use Rattle.call.specs.Tensors.{Inputs, Outputs}
@@ -35,7 +34,7 @@ use Rattle.demands.specs.Demands.{Demand1, Demand2, Programs, Meets, run_of}
 
 -- it is refused, by the first refusal that applies
 record RefusedBy (e : Entry) (c : Call) (x : Inputs) (y : Outputs) (r : Refusal) : Type 0 where
-  outcome : outcome_at e c x y ≡ outcome_of (NotDone r) y
+  outcome : outcome_at e c x y ≡ outcome_of (Err r) y
   first : GivenFirst (links_of e c x y) r
   place : AtFirst c x r
 
@@ -50,23 +49,23 @@ module _ (e : Entry) (c : Call) (x : Inputs) (y : Outputs) where
   ends = by_entry (takes e c) refl
     where
       by_verdict : takes e c ≡ true → (v : Verdict) → verdict_of c x y ≡ v → ((r : Refusal) × RefusedBy e c x y r) ⊎ AcceptedAt e c x y
-      by_verdict t (Refused r) v =
+      by_verdict t (Err r) v =
           inl (r, record { outcome = taken_outcome c x y e t ∙ refused_outcome c x y r v; first = first→given (links_of e c x y) r (taken_links e c x y t ∙ v); place = first_place c x y r v })
-      by_verdict t Accepted v = inr (record { outcome = taken_outcome c x y e t ∙ accepted_outcome c x y v; none = first→clear (links_of e c x y) (taken_links e c x y t ∙ v) })
+      by_verdict t (Ok u) v = inr (record { outcome = taken_outcome c x y e t ∙ accepted_outcome c x y v; none = first→clear (links_of e c x y) (taken_links e c x y t ∙ v) })
 
       by_entry : (t : Bool) → takes e c ≡ t → ((r : Refusal) × RefusedBy e c x y r) ⊎ AcceptedAt e c x y
       by_entry true t = by_verdict t (verdict_of c x y) refl
       by_entry false t = inl (Profile, record { outcome = not_taken_outcome c x y e t; first = first→given (links_of e c x y) Profile (other_links e c x y t); place = tt })
 
 -- answers that are alike
-same_refusal : {r s : Refusal} → NotDone r ≡ NotDone s → r ≡ s
+same_refusal : {r s : Refusal} → ◌≡◌ {A = Answer} (Err r) (Err s) → r ≡ s
 same_refusal e = cc
 
-not_both : {r : Refusal} {total masked : ℕ} → Done total masked ≡ NotDone r → ⊥
+not_both : {r : Refusal} {total masked : ℕ} → done_of total masked ≡ Err r → ⊥
 not_both e = let z : ◌≡◌ {A = ℕ} 0 1 = cc in omega arith
 
 module _ (e : Entry) (c : Call) (x : Inputs) (y : Outputs) (answer : Answer) (left : Outputs) (contract : outcome_of answer left ≡ outcome_at e c x y) where
-  done_answer : AcceptedAt e c x y → answer ≡ Done (total_of c) (masked_rows_of c x)
+  done_answer : AcceptedAt e c x y → answer ≡ done_of (total_of c) (masked_rows_of c x)
   unfolding accepted_of
   done_answer a = ap (λ (o : Outcome). o.answer) (contract ∙ a.outcome)
 
@@ -74,7 +73,7 @@ module _ (e : Entry) (c : Call) (x : Inputs) (y : Outputs) (answer : Answer) (le
   pub demand_1 : Demand1 e c x y answer left
   demand_1 = go (ends e c x y)
     where
-      refused : (r : Refusal) → RefusedBy e c x y r → Demand1 e c x y (NotDone r) y
+      refused : (r : Refusal) → RefusedBy e c x y r → Demand1 e c x y (Err r) y
       refused r b = record {
         first = λ s p. subst (GivenFirst (links_of e c x y)) (same_refusal p) b.first;
         place = λ s p. subst (AtFirst c x) (same_refusal p) b.place;

@@ -1,9 +1,8 @@
 -- The three demands as statements about what a call answers and leaves at either entry: `answer` and `left` stand for the answer of a call c with the tensors x and y at the entry e, and for its tensors at exit. The step entry is lent no masks, live counts and scores; they are empty there. Definitions only.
-use Rattle.std.specs.Prelude.{◌≡◌, true, List, Float}
+use Rattle.std.specs.Prelude.{◌≡◌, true, List, Float, Err}
 use Rattle.call.specs.declared.Call.{Call}
 use Rattle.call.specs.declared.Refusal.{Refusal}
-use Rattle.call.specs.declared.Answer.{Answer}
-use Rattle.call.specs.declared.Answer.TheVariants.{Done, NotDone}
+use Rattle.call.specs.Answers.{Answer, done_of}
 use Rattle.call.specs.Limits.{total_of}
 use Rattle.call.specs.Profile.{Entry, general, step}
 use Rattle.call.specs.Tensors.{Inputs, Outputs}
@@ -15,14 +14,14 @@ use Rattle.sequence.specs.Chunks.{Run, is_done}
 
 -- Demand 1: there is an answer. A refusal is the first that applies, names the first place at fault, and leaves every tensor as it came in; where none is given none applies.
 pub record Demand1 (e : Entry) (c : Call) (x : Inputs) (y : Outputs) (answer : Answer) (left : Outputs) : Type 0 where
-  pub first : (r : Refusal) → answer ≡ NotDone r → GivenFirst (links_of e c x y) r
-  pub place : (r : Refusal) → answer ≡ NotDone r → AtFirst c x r
-  pub untouched : (r : Refusal) → answer ≡ NotDone r → left ≡ y
+  pub first : (r : Refusal) → answer ≡ Err r → GivenFirst (links_of e c x y) r
+  pub place : (r : Refusal) → answer ≡ Err r → AtFirst c x r
+  pub untouched : (r : Refusal) → answer ≡ Err r → left ≡ y
   pub none : is_done answer ≡ true → Clear (links_of e c x y)
 
 -- Demand 2: an accepted call answers done, T and the number of fully masked rows, and leaves in each tensor what the formula gives.
 pub record Demand2 (e : Entry) (c : Call) (x : Inputs) (y : Outputs) (answer : Answer) (left : Outputs) : Type 0 where
-  pub done : Clear (links_of e c x y) → answer ≡ Done (total_of c) (masked_rows_of c x)
+  pub done : Clear (links_of e c x y) → answer ≡ done_of (total_of c) (masked_rows_of c x)
   pub output : Clear (links_of e c x y) → left.output ≡ output_tensor c x
   pub present_key : Clear (links_of e c x y) → left.present_key ≡ present_key_tensor c x
   pub present_value : Clear (links_of e c x y) → left.present_value ≡ present_value_tensor c x

@@ -1,15 +1,14 @@
 -- The empty programs that the promises exclude, each refuted on the example that shows it. A program is taken by what it answers and leaves. Assumes nothing.
+use Rattle.std.specs.Prelude.{Some, None}
 use mathlib.Core.Path.{◌≡◌, refl, sym, ap, ◌∙◌}
 use mathlib.Core.List.{List, [], ◌∷◌}
 use Prim.Native.Nat.{ℕ}
 use native.Mathlib.Omega.{arith}
 use mathlib.Core.Bool.{true, false, true≢false}
 use lib.Ieee.{Float, nan, inf, fin}
-use Rattle.call.specs.declared.Answer.{Answer}
-use Rattle.call.specs.declared.Answer.TheVariants.{Done}
+use Rattle.call.specs.Answers.{Answer, done_of}
 use Rattle.call.specs.declared.Form.TheVariants.{Plain}
 use Rattle.call.specs.declared.MaskKind.TheVariants.{NoMask}
-use Rattle.call.specs.declared.ScoreMode.TheVariants.{NoScores, Mode}
 use Rattle.call.specs.Answers.{report_of}
 use Rattle.call.specs.Profile.{general}
 use Rattle.call.specs.Tensors.{Outputs}
@@ -32,17 +31,17 @@ first_number (inf s ∷ l) = 0
 first_number (fin s m e ∷ l) = m
 
 -- A program that always refuses: A is accepted.
-pub always_refuses : (a : Answer) → is_done a ≡ false → (attention_of (small Plain NoMask (Mode 1) 0 0 1 1) inputs_a lent_a).answer ≡ a → ⊥
+pub always_refuses : (a : Answer) → is_done a ≡ false → (attention_of (small Plain NoMask (Some 1) 0 0 1 1) inputs_a lent_a).answer ≡ a → ⊥
 unfolding attention_of
 always_refuses a h e = true≢false (ap is_done e ∙ h)
 
 -- A program that always yields the same tensors, zeros or others: A and E leave outputs of their own, 5 and 9.
-pub always_the_same : (output : List Float) → (attention_of (small Plain NoMask (Mode 1) 0 0 1 1) inputs_a lent_a).tensors.output ≡ output → (attention_of call_e inputs_e lent_e).tensors.output ≡ output → ⊥
+pub always_the_same : (output : List Float) → (attention_of (small Plain NoMask (Some 1) 0 0 1 1) inputs_a lent_a).tensors.output ≡ output → (attention_of call_e inputs_e lent_e).tensors.output ≡ output → ⊥
 unfolding attention_of first_number
 always_the_same output p q = let n : ◌≡◌ {A = ℕ} 5 9 = ap first_number (p ∙ sym q) in omega arith
 
 -- A program that touches nothing: A writes its output.
-pub touches_nothing : (attention_of (small Plain NoMask (Mode 1) 0 0 1 1) inputs_a lent_a).tensors ≡ lent_a → ⊥
+pub touches_nothing : (attention_of (small Plain NoMask (Some 1) 0 0 1 1) inputs_a lent_a).tensors ≡ lent_a → ⊥
 unfolding attention_of first_number
 touches_nothing e = let n : ◌≡◌ {A = ℕ} 5 0 = ap (λ (t : Outputs). first_number t.output) e in omega arith
 
@@ -72,7 +71,7 @@ first_chunk_only run first second d =
     ∙ ap (λ (o : Outcome). let whole = history_next call_e (next_state o.answer start o.tensors) before (second_chunk general) in attention_output (plain_call call_e whole) (plain_inputs call_e whole) 0 0 1 0) first)
 
 -- A program that invents the number of fully masked rows, the same in B as in C: B has none and C has one.
-pub invents_the_number : (n : ℕ) → (attention_of (small Plain NoMask NoScores 0 0 1 2) (inputs_b []) lent_b).answer ≡ Done 2 n → (attention_of call_c (inputs_b (0 ∷ 0 ∷ [])) lent_b).answer ≡ Done 2 n → ⊥
+pub invents_the_number : (n : ℕ) → (attention_of (small Plain NoMask None 0 0 1 2) (inputs_b []) lent_b).answer ≡ done_of 2 n → (attention_of call_c (inputs_b (0 ∷ 0 ∷ [])) lent_b).answer ≡ done_of 2 n → ⊥
 unfolding attention_of
 invents_the_number n p q = let z : ◌≡◌ {A = ℕ} 0 1 = ap (λ (a : Answer). (report_of a).masked) (p ∙ sym q) in omega arith
 

@@ -1,9 +1,9 @@
 -- With example D's two positions as two chunks, each through either entry, the second is example E; both positions in one chunk are refused by the step entry. Assumes nothing.
+use Rattle.std.specs.Prelude.{Err}
 use mathlib.Core.Path.{◌≡◌, refl}
 use mathlib.Core.List.{[], ◌∷◌}
 use mathlib.Core.Bool.{false, true}
 use Rattle.call.specs.Profile.{Entry, general, step}
-use Rattle.call.specs.declared.Answer.TheVariants.{Done, NotDone}
 use Rattle.call.specs.declared.Refusal.TheVariants.{Profile}
 use Rattle.attention.specs.Outcomes.{outcome_of, attention_of}
 use Rattle.attention.specs.Entries.{step_of}
@@ -11,6 +11,7 @@ use Rattle.attention.specs.Table.{call_e, inputs_e, outcome_e}
 use Rattle.sequence.specs.Chunks.{entry_run, start, lent_of, chunk_call, chunk_inputs, chunk_outcome, state_after, plain_accepted, positions_of, entered}
 use Rattle.sequence.specs.Cuts.{all_fit, all_accepted, all_positions}
 use Rattle.examples.specs.TwoChunks.{first_chunk, second_chunk, both_at_once}
+use Rattle.call.specs.Answers.{done_of}
 
 -- after the first chunk, the second's call, inputs and outcome are those of E
 pub record SecondIsE (e f : Entry) : Type 0 where
@@ -28,9 +29,9 @@ second_is_E step step = record { call = refl; inputs = refl; outcome = refl }
 -- both at once are entered through the general entry; through the step entry they get refusal 10 and are not entered, though the plain call over them is accepted
 pub record BothAtOnce : Type 0 where
   pub plain : plain_accepted call_e (positions_of call_e (both_at_once step)) ≡ true
-  pub refused : chunk_outcome entry_run call_e start (both_at_once step) ≡ outcome_of (NotDone Profile) (lent_of (both_at_once step))
+  pub refused : chunk_outcome entry_run call_e start (both_at_once step) ≡ outcome_of (Err Profile) (lent_of (both_at_once step))
   pub not_entered : entered call_e start [] (both_at_once step) ≡ false
-  pub accepted : (chunk_outcome entry_run call_e start (both_at_once general)).answer ≡ Done 2 0
+  pub accepted : (chunk_outcome entry_run call_e start (both_at_once general)).answer ≡ done_of 2 0
   pub entered_by_general : entered call_e start [] (both_at_once general) ≡ true
 
 pub both_at_once_lem : BothAtOnce

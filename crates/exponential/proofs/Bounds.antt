@@ -4,7 +4,7 @@ use Prim.Native.Nat.{ℕ, ◌+◌, ◌*◌, ◌/◌, ◌%◌, ◌^◌, ◌≤◌
 use native.Mathlib.Nat.{le_trans, le_of_eq, lt_of_le_of_lt, mul-one, one-mul, mul_comm, mul-le-mul_right, le_of_mul-le-mul_right, mul-pos, mod-lt, mul_assoc, mul-le-mul_left, lt_of_not-le, not-le_of_lt, div-lt_iff_lt-mul}
 use native.Mathlib.Omega.{arith}
 use mathlib.Core.Bool.{false}
-use lib.IntN.{pos, negsuc}
+use lib.IntN.{negsuc}
 use lib.Dec.{T, lit<}
 use lib.Pow.{pow-add, pow_pos, pow_mono}
 use lib.Ieee.{Float, fin, binary32, up, down, round, sub, mul, le, fits}

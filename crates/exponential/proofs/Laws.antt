@@ -1,4 +1,5 @@
 -- What the layers above may use of E and of the default scale: where E has a value, what that value is at the ends, and that it lies from 0 to 1. Assumes nothing.
+use Rattle.std.specs.Prelude.{Option, Some, None}
 use mathlib.Core.Path.{◌≡◌, refl, sym, ap, ◌∙◌, subst}
 use mathlib.Core.Logic.{inl, inr}
 use mathlib.Core.List.{List, [], ◌∷◌, map}
@@ -16,8 +17,6 @@ use Rattle.bool_laws.proofs.Tests.{not_either}
 use Rattle.float_laws.specs.Zero.{minus_zero}
 use Rattle.float_laws.proofs.Order.{plus, plus_finite, finite_not_nan, le_of_not_lt, lt_of_not_le}
 use Rattle.float_laws.proofs.Product.{mul_mono, mul_not_nan}
-use Rattle.exponential.specs.declared.Exponential.{Exponential}
-use Rattle.exponential.specs.declared.Exponential.TheVariants.{Value, NoValue}
 use Rattle.exponential.specs.ExpNeg.{plus_zero, one, limit, log2e, in_range, below_limit_of, scaled_of, exp_neg_of, value_or_zero, exp_neg_row_of}
 use Rattle.exponential.proofs.Whole.{in_range_lem}
 use Rattle.exponential.proofs.Bounds.{below_limit_within}
@@ -94,50 +93,50 @@ has_value d = not (is_nan d || lt d plus_zero)
 pub has_value_lem : (d : Float) → T (not (is_nan d)) → T (not (lt d plus_zero)) → T (has_value d)
 has_value_lem d p q = not_either (is_nan d) (lt d plus_zero) p q
 
-pub value_where : (d : Float) → T (has_value d) → exp_neg_of d ≡ Value (scaled_of (mul binary32 d log2e))
+pub value_where : (d : Float) → T (has_value d) → exp_neg_of d ≡ Some (scaled_of (mul binary32 d log2e))
 unfolding exp_neg_of
-value_where d h = ap (λ (b : Bool). cond b NoValue (Value (scaled_of (mul binary32 d log2e)))) (is_false (is_nan d || lt d plus_zero) h)
+value_where d h = ap (λ (b : Bool). cond b None (Some (scaled_of (mul binary32 d log2e)))) (is_false (is_nan d || lt d plus_zero) h)
 
-pub no_value_where : (d : Float) → T (is_nan d || lt d plus_zero) → exp_neg_of d ≡ NoValue
+pub no_value_where : (d : Float) → T (is_nan d || lt d plus_zero) → exp_neg_of d ≡ None
 unfolding exp_neg_of
-no_value_where d h = ap (λ (b : Bool). cond b NoValue (Value (scaled_of (mul binary32 d log2e)))) (is_true (is_nan d || lt d plus_zero) h)
+no_value_where d h = ap (λ (b : Bool). cond b None (Some (scaled_of (mul binary32 d log2e)))) (is_true (is_nan d || lt d plus_zero) h)
 
 -- where E has a value, it is a number from 0 to 1, and never -0
-pub value_in_unit : (d : Float) → T (has_value d) → (x : Float) × (exp_neg_of d ≡ Value x) × InUnit x
+pub value_in_unit : (d : Float) → T (has_value d) → (x : Float) × (exp_neg_of d ≡ Some x) × InUnit x
 value_in_unit d h = let p = or_no (is_nan d) (lt d plus_zero) h in (scaled_of (mul binary32 d log2e), value_where d h, scaled_in_unit d p.0 p.1)
 
 -- E(+0) = E(-0) = 1
-pub value_at_zero : exp_neg_of plus_zero ≡ Value one
+pub value_at_zero : exp_neg_of plus_zero ≡ Some one
 unfolding exp_neg_of scaled_of below_limit_of
 value_at_zero = refl
 
-pub value_at_minus_zero : exp_neg_of minus_zero ≡ Value one
+pub value_at_minus_zero : exp_neg_of minus_zero ≡ Some one
 unfolding exp_neg_of scaled_of below_limit_of
 value_at_minus_zero = refl
 
 -- E(+inf) = +0
-pub value_at_infinity : exp_neg_of (inf false) ≡ Value plus_zero
+pub value_at_infinity : exp_neg_of (inf false) ≡ Some plus_zero
 unfolding exp_neg_of scaled_of
 value_at_infinity = refl
 
 -- E is +0 from y = 120 on
-pub value_at_limit : (d : Float) → T (has_value d) → T (le limit (mul binary32 d log2e)) → exp_neg_of d ≡ Value plus_zero
-value_at_limit d h k = value_where d h ∙ ap Value (scaled_at_limit (mul binary32 d log2e) k)
+pub value_at_limit : (d : Float) → T (has_value d) → T (le limit (mul binary32 d log2e)) → exp_neg_of d ≡ Some plus_zero
+value_at_limit d h k = value_where d h ∙ ap Some (scaled_at_limit (mul binary32 d log2e) k)
 
 -- ---- over a row
 
 pub value_or_zero_in_unit : (d : Float) → InUnit (value_or_zero (exp_neg_of d))
 value_or_zero_in_unit d = go (is_nan d || lt d plus_zero) (no_value_where d) (value_in_unit d)
   where
-    go : (b : Bool) → (T b → exp_neg_of d ≡ NoValue) → (T (not b) → (x : Float) × (exp_neg_of d ≡ Value x) × InUnit x) → InUnit (value_or_zero (exp_neg_of d))
-    go true p q = subst (λ (e : Exponential). InUnit (value_or_zero e)) (sym (p tt)) zero_in_unit
-    go false p q = let v = q tt in subst (λ (e : Exponential). InUnit (value_or_zero e)) (sym v.1) v.2
+    go : (b : Bool) → (T b → exp_neg_of d ≡ None) → (T (not b) → (x : Float) × (exp_neg_of d ≡ Some x) × InUnit x) → InUnit (value_or_zero (exp_neg_of d))
+    go true p q = subst (λ (e : Option Float). InUnit (value_or_zero e)) (sym (p tt)) zero_in_unit
+    go false p q = let v = q tt in subst (λ (e : Option Float). InUnit (value_or_zero e)) (sym v.1) v.2
 
 in_unit_not_nan : (x : Float) → InUnit x → T (not (is_nan x))
 in_unit_not_nan x u = finite_not_nan x (plus_finite x u.sign)
 
-pub value_not_nan : (d x : Float) → exp_neg_of d ≡ Value x → T (not (is_nan x))
-value_not_nan d x e = in_unit_not_nan x (subst (λ (v : Exponential). InUnit (value_or_zero v)) e (value_or_zero_in_unit d))
+pub value_not_nan : (d x : Float) → exp_neg_of d ≡ Some x → T (not (is_nan x))
+value_not_nan d x e = in_unit_not_nan x (subst (λ (v : Option Float). InUnit (value_or_zero v)) e (value_or_zero_in_unit d))
 
 pub length_row : (largest : Float) (row : List Float) → length (exp_neg_row_of largest row) ≡ length row
 unfolding exp_neg_row_of

@@ -1,10 +1,8 @@
 -- The house exponential E(d), which is near e ^ -d, for a d that is not below 0. Each step is one f32 operation, in the order written. Definitions only.
-use Rattle.std.specs.Prelude.{List, map, ℕ, ◌*◌, ◌/◌, ◌%◌, Bool, false, ◌||◌, ◌&&◌, cond, pos, Float}
+use Rattle.std.specs.Prelude.{List, map, ℕ, ◌*◌, ◌/◌, ◌%◌, Bool, false, ◌||◌, ◌&&◌, cond, pos, Float, Option, Some, None}
 use Rattle.std.specs.Float.{nan, inf, fin, binary32}
 use Rattle.std.specs.Float.Ieee.{up, down, minus, sub, mul, div, le, lt, is_nan, of_int, of_bits}
 use Rattle.tables.specs.Power.{power_of}
-use Rattle.exponential.specs.declared.Exponential.{Exponential}
-use Rattle.exponential.specs.declared.Exponential.TheVariants.{Value, NoValue}
 pub use Rattle.float_laws.specs.Zero.{plus_zero}
 
 abbrev pub one : Float
@@ -63,16 +61,16 @@ unfolding below_limit_of le
 scaled_of y = cond (le limit y) plus_zero (below_limit_of y)
 
 -- E(d), and no value exactly where d is below 0 or not a number
-unfoldable pub exp_neg_of : Float → Exponential
+unfoldable pub exp_neg_of : Float → Option Float
 unfolding is_nan lt mul log2e scaled_of
-exp_neg_of d = cond (is_nan d || lt d plus_zero) NoValue (Value (scaled_of (mul binary32 d log2e)))
+exp_neg_of d = cond (is_nan d || lt d plus_zero) None (Some (scaled_of (mul binary32 d log2e)))
 
 -- ---- over a row
 
 -- E's value, and +0 where there is none
-abbrev pub value_or_zero : Exponential → Float
-value_or_zero (Value x) = x
-value_or_zero NoValue = plus_zero
+abbrev pub value_or_zero : Option Float → Float
+value_or_zero (Some x) = x
+value_or_zero None = plus_zero
 
 -- each element s becomes E(largest - s), and +0 where that has no value
 unfoldable pub exp_neg_row_of : Float → List Float → List Float

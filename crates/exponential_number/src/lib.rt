@@ -5,8 +5,6 @@ ghost use Rattle.std.specs.Prelude.{◌≡◌, T};
 ghost use Rattle.tables.specs.Power.{power_bits};
 ghost use Rattle.exponential.specs.ExpNeg.{in_range, below_limit_of, exp_neg_of};
 
-use exponential::Exponential;
-
 // E by y = d * LOG2E, for y from 0 to below 120.
 fn below_limit(powers: &[u32; 256], y: f32) -> f32
     requires powers_value { powers.now ≡ power_bits }
@@ -22,24 +20,21 @@ fn below_limit(powers: &[u32; 256], y: f32) -> f32
 }
 
 // E(d) by a table that the caller has bound.
-fn exp_neg_by(powers: &[u32; 256], d: f32) -> Exponential
+fn exp_neg_by(powers: &[u32; 256], d: f32) -> Option<f32>
     requires { powers.now ≡ power_bits }
     ensures { result ≡ exp_neg_of d }
 {
-    if d != d {
-        return Exponential::NoValue;
-    }
-    if d < 0.0 {
-        return Exponential::NoValue;
+    if d.is_nan() || d < 0.0 {
+        return None;
     }
     let y = d * f32::from_bits(exponential::LOG2E);
     if y >= 120.0 {
-        return Exponential::Value(0.0);
+        return Some(0.0);
     }
-    Exponential::Value(below_limit(powers, y))
+    Some(below_limit(powers, y))
 }
 
-pub fn exp_neg(d: f32) -> Exponential
+pub fn exp_neg(d: f32) -> Option<f32>
     ensures { result ≡ exp_neg_of d }
 {
     let powers = tables::table::POWERS;

@@ -1,4 +1,4 @@
--- Sums and differences of finite values: `add` and `sub` keep the order, are never `nan`, a sum is bounded by its terms' bounds, and a difference from itself is +0. `round-neg` is that of `Rounded`, passed on.
+-- Sums and differences of finite values: `add` and `sub` keep the order, are never `nan`, a sum is bounded by its terms' bounds, and a difference from itself is +0. `round_neg` is that of `Rounded`, passed on.
 -- Assumes nothing.
 use mathlib.Core.Path.{◌≡◌, refl, sym, ap, ◌∙◌, subst}
 use mathlib.Core.Bool.{Bool, true, false, not, cond}

@@ -1,4 +1,5 @@
 -- The heads of a call one after the other: the rows done, the fully masked rows counted and the scratch row, before the first head, after one more, and after all. Assumes nothing.
+use Rattle.std.specs.Prelude.{Option, Some, None}
 use mathlib.Core.Path.{◌≡◌, refl, sym, ap, ◌∙◌}
 use mathlib.Core.Bool.{Bool, true, false, ◌&&◌, ◌||◌}
 use mathlib.Core.List.{List}
@@ -18,8 +19,6 @@ use Rattle.tensor_laws.proofs.Tabulate.{length_tabulate, none_long}
 use Rattle.tensor_laws.proofs.Cells.{length_tensor_of}
 use Rattle.tensor_laws.proofs.Written.{length_written, written_none, written_all, written_again}
 use Rattle.call.specs.declared.Call.{Call}
-use Rattle.call.specs.declared.ScoreMode.{ScoreMode}
-use Rattle.call.specs.declared.ScoreMode.TheVariants.{NoScores, Mode}
 use Rattle.call.specs.Limits.{total_of}
 use Rattle.call.specs.Lengths.{output_length, scores_length, in_scores}
 use Rattle.call.specs.Tensors.{Inputs}
@@ -76,9 +75,9 @@ module _ (c : Call) (x : Inputs) where
   unfolding scores_tensor
   scores_shown = go c.mode
     where
-      go : (m : ScoreMode) → tensor_of 4 c.batches c.qheads c.qlen (in_scores m (total_of c)) (shown_at m c x) ≡ where_shown m (λ m. tensor_of 4 c.batches c.qheads c.qlen (total_of c) (shown_score m c x))
-      go NoScores = none_long _ (length_tensor_of 4 c.batches c.qheads c.qlen 0 (shown_at NoScores c x) ∙ mul-zero (c.batches * c.qheads * c.qlen))
-      go (Mode m) = refl
+      go : (m : Option ℕ) → tensor_of 4 c.batches c.qheads c.qlen (in_scores m (total_of c)) (shown_at m c x) ≡ where_shown m (λ m. tensor_of 4 c.batches c.qheads c.qlen (total_of c) (shown_score m c x))
+      go None = none_long _ (length_tensor_of 4 c.batches c.qheads c.qlen 0 (shown_at None c x) ∙ mul-zero (c.batches * c.qheads * c.qlen))
+      go (Some m) = refl
 
 -- ---- the last head
 

@@ -1,6 +1,6 @@
 -- The call record as 18 numbers, a scale and a cap, and the call that they stand for.
 -- The numbers: form, mask kind, scale kind, score mode, rank, causal flag, B, Hq, Hkv, Sq, Sk, P, D, Dv, and the mask's four dimensions. Definitions only.
-use Rattle.std.specs.Prelude.{List, ℕ, Bool, ◌&&◌, cond, leb, eqb, length, get_or, Float}
+use Rattle.std.specs.Prelude.{List, ℕ, Bool, ◌&&◌, cond, leb, eqb, length, get_or, Float, Option, Some, None}
 use Rattle.float_laws.specs.Zero.{plus_zero}
 use Rattle.call.specs.declared.Call.{Call}
 use Rattle.call.specs.declared.Form.{Form}
@@ -9,8 +9,6 @@ use Rattle.call.specs.declared.MaskKind.{MaskKind}
 use Rattle.call.specs.declared.MaskKind.TheVariants.{NoMask, Boolean, FloatMask}
 use Rattle.call.specs.declared.Scale.{Scale}
 use Rattle.call.specs.declared.Scale.TheVariants.{Absent, Given}
-use Rattle.call.specs.declared.ScoreMode.{ScoreMode}
-use Rattle.call.specs.declared.ScoreMode.TheVariants.{NoScores, Mode}
 
 -- number i of a record; a record that has not 18 numbers is read as one of zeros
 unfoldable pub number_at : List ℕ → ℕ → ℕ
@@ -29,8 +27,8 @@ unfoldable pub scale_of : ℕ → Float → Scale
 scale_of code scale = cond (eqb code 0) Absent (cond (eqb code 1) (Given scale) (Given plus_zero))
 
 -- 255 is no scores, and any other number is the mode of that number
-unfoldable pub mode_of : ℕ → ScoreMode
-mode_of code = cond (eqb code 255) NoScores (Mode code)
+unfoldable pub mode_of : ℕ → Option ℕ
+mode_of code = cond (eqb code 255) None (Some code)
 
 -- whether the two codes name a form and a mask kind
 unfoldable pub codes_named : ℕ → ℕ → Bool

@@ -1,23 +1,22 @@
 // A call record from its numbers. `decode` takes any numbers.
+// These are functions and no `From` or `TryFrom`: the types live in a crate of definitions, which has no functions.
 #![tactic(auto)]
 
 ghost use Rattle.std.specs.Prelude.{◌≡◌};
 ghost use Rattle.interface.specs.Record.{number_at, form_of, mask_kind_of, scale_of, mode_of, rank_of, call_of};
 
-use call::{Call, Form, MaskKind, Scale, ScoreMode};
+use call::{Call, Form, MaskKind, Scale};
 
 // A number of the record, which is 0 in a record that has not 18 numbers.
 #[tactic(auto, unfolding(interface::specs::Record::number_at))]
 fn number(numbers: &[u64], at: usize) -> usize
     ensures { result ≡ number_at numbers.now at }
 {
-    if numbers.len() != 18 {
-        return 0;
+    if numbers.len() == 18 && at < 18 {
+        numbers[at] as usize
+    } else {
+        0
     }
-    if numbers.len() <= at {
-        return 0;
-    }
-    numbers[at] as usize
 }
 
 // The form that a code names. A past is allowed under a code that names none.
@@ -25,49 +24,40 @@ fn number(numbers: &[u64], at: usize) -> usize
 fn decode_form(code: usize) -> Form
     ensures { result ≡ form_of code }
 {
-    if code == 0 {
-        return Form::Plain;
+    match code {
+        0 => Form::Plain,
+        2 => Form::Counted,
+        _ => Form::Cached,
     }
-    if code == 2 {
-        return Form::Counted;
-    }
-    Form::Cached
 }
 
 #[tactic(auto, unfolding(interface::specs::Record::mask_kind_of))]
 fn decode_mask(code: usize) -> MaskKind
     ensures { result ≡ mask_kind_of code }
 {
-    if code == 1 {
-        return MaskKind::Boolean;
+    match code {
+        1 => MaskKind::Boolean,
+        2 => MaskKind::FloatMask,
+        _ => MaskKind::NoMask,
     }
-    if code == 2 {
-        return MaskKind::FloatMask;
-    }
-    MaskKind::NoMask
 }
 
 #[tactic(auto, unfolding(interface::specs::Record::scale_of))]
 fn decode_scale(code: usize, scale: f32) -> Scale
     ensures { result ≡ scale_of code scale }
 {
-    if code == 0 {
-        return Scale::Absent;
+    match code {
+        0 => Scale::Absent,
+        1 => Scale::Given(scale),
+        _ => Scale::Given(0.0),
     }
-    if code == 1 {
-        return Scale::Given(scale);
-    }
-    Scale::Given(0.0)
 }
 
 #[tactic(auto, unfolding(interface::specs::Record::mode_of))]
-fn decode_mode(code: usize) -> ScoreMode
+fn decode_mode(code: usize) -> Option<usize>
     ensures { result ≡ mode_of code }
 {
-    if code == 255 {
-        return ScoreMode::NoScores;
-    }
-    ScoreMode::Mode(code)
+    if code == 255 { None } else { Some(code) }
 }
 
 // The rank, which is 0 where a code names no form or no mask kind, so that the call is refused.
@@ -75,13 +65,7 @@ fn decode_mode(code: usize) -> ScoreMode
 fn decode_rank(form: usize, mask: usize, rank: usize) -> usize
     ensures { result ≡ rank_of form mask rank }
 {
-    if 2 < form {
-        return 0;
-    }
-    if 2 < mask {
-        return 0;
-    }
-    rank
+    if form <= 2 && mask <= 2 { rank } else { 0 }
 }
 
 // The call that 18 numbers, a scale and a cap stand for.

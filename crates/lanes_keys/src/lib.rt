@@ -13,13 +13,11 @@ pub fn sum_fours(q: &[f32], keys: &[f32], stride: usize, lanes: &mut [f32])
 {
     let fours = q.len() / 4;
     let passes = lanes.len() / 16;
-    let mut p = 0;
-    while p < passes {
+    for p in 0..passes {
         let at = p * 4 * stride;
         let a = p * 16;
         let e = a + 16;
         lanes_four::sum_four(q, &keys[at..], stride, fours, &mut lanes[a..e]);
-        p += 1;
     }
 }
 
@@ -31,18 +29,16 @@ pub fn sum_rest(q: &[f32], keys: &[f32], stride: usize, lanes: &mut [f32])
     ensures { lanes.new ≡ tabulate (length lanes.old) (lane_at q.now keys.now stride (length q.now)) }
 {
     let from = q.len() / 4 * 4;
-    let count = q.len() - from;
+    let count = q.len() % 4;
     if count == 0 {
         return;
     }
     let n = lanes.len() / 4;
-    let mut j = 0;
-    while j < n {
+    for j in 0..n {
         let at = j * stride;
         let end = at + q.len();
         let a = j * 4;
         let e = a + 4;
         lanes_dot::add_lanes(&mut lanes[a..e], q, &keys[at..end], from, count);
-        j += 1;
     }
 }

@@ -11,14 +11,14 @@ pub fn u16_at(bytes: &[u8], at: usize) -> u16
     requires { at + 2 ≤ length bytes.now }
     ensures { result ≡ u16_at bytes.now at }
 {
-    bytes[at] as u16 + bytes[at + 1] as u16 * 256
+    u16::from_le_bytes([bytes[at], bytes[at + 1]])
 }
 
 pub fn u32_at(bytes: &[u8], at: usize) -> u32
     requires { at + 4 ≤ length bytes.now }
     ensures { result ≡ u32_at bytes.now at }
 {
-    u16_at(bytes, at) as u32 + u16_at(bytes, at + 2) as u32 * 65536
+    u32::from_le_bytes([bytes[at], bytes[at + 1], bytes[at + 2], bytes[at + 3]])
 }
 
 // Whether the six bytes from `at` on are the head of a record of that length and kind.
@@ -26,10 +26,7 @@ pub fn head_is(bytes: &[u8], at: usize, long: u32, kind: u16) -> bool
     requires { at + 6 ≤ length bytes.now }
     ensures { result ≡ head_is bytes.now at long kind }
 {
-    if u32_at(bytes, at) == long {
-        return u16_at(bytes, at + 4) == kind;
-    }
-    false
+    u32_at(bytes, at) == long && u16_at(bytes, at + 4) == kind
 }
 
 // A row from its bytes, none of whose patterns is a NaN's.
@@ -38,9 +35,7 @@ pub fn read_row(bytes: &[u8], row: &mut [f32])
     requires by_index { (k : ℕ) → k < length row.old → T (not (nan_bits binary32 (u32_at bytes.now (k * 4)))) }
     ensures { row.new ≡ row_at bytes.now 0 (length row.old) }
 {
-    let mut i = 0;
-    while i < row.len() {
-        row[i] = f32::from_bits(u32_at(bytes, i * 4));
-        i += 1;
+    for (i, x) in row.iter_mut().enumerate() {
+        *x = f32::from_bits(u32_at(bytes, i * 4));
     }
 }

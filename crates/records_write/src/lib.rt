@@ -11,16 +11,14 @@ pub fn put_u16(bytes: &mut [u8], at: usize, x: u16)
     requires { at + 2 ≤ length bytes.old }
     ensures { bytes.new ≡ written_at bytes.old at (u16_bytes x) }
 {
-    bytes[at] = (x % 256) as u8;
-    bytes[at + 1] = (x / 256) as u8;
+    bytes[at..at + 2].copy_from_slice(&x.to_le_bytes());
 }
 
 pub fn put_u32(bytes: &mut [u8], at: usize, x: u32)
     requires { at + 4 ≤ length bytes.old }
     ensures { bytes.new ≡ written_at bytes.old at (u32_bytes x) }
 {
-    put_u16(bytes, at, (x % 65536) as u16);
-    put_u16(bytes, at + 2, (x / 65536) as u16);
+    bytes[at..at + 4].copy_from_slice(&x.to_le_bytes());
 }
 
 pub fn put_head(bytes: &mut [u8], at: usize, long: u32, kind: u16)
@@ -37,9 +35,7 @@ pub fn write_row(row: &[f32], bytes: &mut [u8])
     requires by_index { (k : ℕ) → k < length row.now → T (not (is_nan (get_or row.now k nan))) }
     ensures { bytes.new ≡ row_bytes row.now }
 {
-    let mut i = 0;
-    while i < row.len() {
-        put_u32(bytes, i * 4, f32::to_bits(row[i]));
-        i += 1;
+    for (i, x) in row.iter().enumerate() {
+        put_u32(bytes, i * 4, x.to_bits());
     }
 }

@@ -1,92 +1,66 @@
 // The mask on a row of scores.
 #![tactic(auto)]
 
-ghost use Rattle.std.specs.Prelude.{◌≡◌, ◌+◌, ◌≤◌, ◌<◌, [], map, length};
-ghost use Rattle.std.specs.Float.{binary32};
-ghost use Rattle.std.specs.Float.Ieee.{add};
+ghost use Rattle.std.specs.Prelude.{◌≡◌, ℕ, ◌+◌, ◌≤◌, ◌<◌, length, slice_index_or};
+ghost use Rattle.softmax.specs.Lists.{element_of};
 ghost use Rattle.attention.specs.Admission.{repeated};
-ghost use Rattle.row_steps.specs.Steps.{masked_row_by, MaskRowFits};
+ghost use Rattle.row_steps.specs.Masks.{masked_under, RowMaskFits};
 
 use call::MaskKind;
+use row_steps::RowMask;
 
-// Scores whose byte is 0 become minus infinity.
-fn hide_where(row: &mut [f32], bytes: &[u8])
-    requires { length row.old ≤ length bytes.now }
-    ensures { row.new ≡ masked_row_by MaskKind.Boolean bytes.now [] (λ j. j) row.old }
+// Each score becomes what `apply` makes of it and the one cell.
+fn mask_all<C: Copy, F: Fn(f32, C) -> f32>(row: &mut [f32], cell: C, apply: F)
+    requires { F.IsAlwaysCallable apply }
+    ensures { (j : ℕ) → j < length row.old → F.post apply (element_of row.old j) cell (element_of row.new j) }
 {
-    let mut j = 0;
-    while j < row.len() {
-        if bytes[j] == 0 {
-            row[j] = -f32::from_bits(0x7f800000);
-        }
-        j += 1;
+    for score in row.iter_mut() {
+        *score = apply(*score, cell);
     }
 }
 
-// Each score has its cell added.
-fn add_cells(row: &mut [f32], cells: &[f32])
-    requires { length row.old ≤ length cells.now }
-    ensures { row.new ≡ masked_row_by MaskKind.FloatMask [] cells.now (λ j. j) row.old }
-{
-    let mut j = 0;
-    while j < row.len() {
-        row[j] = row[j] + cells[j];
-        j += 1;
-    }
-}
-
-// Each score has the same cell added.
-fn add_cell(row: &mut [f32], cell: f32)
-    ensures { row.new ≡ map (λ s. add binary32 s cell) row.old }
-{
-    let mut j = 0;
-    while j < row.len() {
-        row[j] = row[j] + cell;
-        j += 1;
-    }
-}
-
-// A row of scores under a boolean mask whose cells for it start at `at`; a width of 1 is repeated.
-fn mask_bytes(row: &mut [f32], bytes: &[u8], at: usize, width: usize)
-    requires { (at < length bytes.now) × ((width ≡ 1 → ⊥) → at + length row.old ≤ length bytes.now) }
-    ensures { row.new ≡ masked_row_by MaskKind.Boolean bytes.now [] (λ j. at + repeated width j) row.old }
-{
-    if width == 1 {
-        if bytes[at] == 0 {
-            row_copies::fill_row(row, -f32::from_bits(0x7f800000));
-        }
-        return;
-    }
-    hide_where(row, &bytes[at..]);
-}
-
-// A row of scores under a float mask whose cells for it start at `at`; a width of 1 is repeated.
-fn mask_cells(row: &mut [f32], cells: &[f32], at: usize, width: usize)
-    requires { (at < length cells.now) × ((width ≡ 1 → ⊥) → at + length row.old ≤ length cells.now) }
-    ensures { row.new ≡ masked_row_by MaskKind.FloatMask [] cells.now (λ j. at + repeated width j) row.old }
-{
-    if width == 1 {
-        add_cell(row, cells[at]);
-        return;
-    }
-    add_cells(row, &cells[at..]);
-}
-
-// A row of scores under the mask, whose cells for the row start at `at`.
-pub fn mask_row(
-    kind: MaskKind,
-    bytes: &[u8],
-    cells: &[f32],
+// Each score becomes what `apply` makes of it and its cell; the cells for the row start at `at`, and a width of 1 is repeated.
+fn mask_each<C: Copy, F: Fn(f32, C) -> f32>(
+    row: &mut [f32],
+    cells: &[C],
     at: usize,
     width: usize,
-    row: &mut [f32],
+    apply: F,
 )
-    requires { MaskRowFits kind (length bytes.now) (length cells.now) at width (length row.old) }
-    ensures { row.new ≡ masked_row_by kind bytes.now cells.now (λ j. at + repeated width j) row.old }
+    requires callable { F.IsAlwaysCallable apply }
+    requires cells_len { (at < length cells.now) × ((width ≡ 1 → ⊥) → at + length row.old ≤ length cells.now) }
+    ensures { (j : ℕ) (d : C) → j < length row.old → F.post apply (element_of row.old j) (slice_index_or cells.now (at + repeated width j) d) (element_of row.new j) }
 {
+    if width == 1 {
+        mask_all(row, cells[at], apply);
+        return;
+    }
+    for (j, score) in row.iter_mut().enumerate() {
+        *score = apply(*score, cells[at + j]);
+    }
+}
+
+// A row of scores under the mask.
+pub fn mask_row(mask: RowMask<'_>, row: &mut [f32])
+    requires { RowMaskFits mask (length row.old) }
+    ensures { row.new ≡ masked_under mask.entry row.old }
+{
+    let RowMask {
+        kind,
+        bytes,
+        cells,
+        at,
+        width,
+    } = mask;
     match kind {
         MaskKind::NoMask => {}
-        MaskKind::Boolean => mask_bytes(row, bytes, at, width),
-        MaskKind::FloatMask => mask_cells(row, cells, at, width),
+        MaskKind::Boolean => mask_each(row, bytes, at, width, |score, byte| {
+            if byte == 0 {
+                -f32::from_bits(0x7f800000)
+            } else {
+                score
+            }
+        }),
+        MaskKind::FloatMask => mask_each(row, cells, at, width, |score, cell| score + cell),
     }
 }

@@ -1,113 +1,71 @@
 // The output of a row, over the past's positions and then the incoming ones.
 #![tactic(auto)]
 
-ghost use Rattle.std.specs.Prelude.{◌≡◌, ℕ, ◌+◌, ◌≤◌, ◌<◌, length, replicate};
+ghost use Rattle.std.specs.Prelude.{◌≡◌, ◌+◌, ◌≤◌, length, replicate};
 ghost use Rattle.exponential.specs.ExpNeg.{plus_zero};
 ghost use Rattle.call.specs.Limits.{total_of};
-ghost use Rattle.attention.specs.Admission.{repeated};
-ghost use Rattle.admitted_sum.specs.Sums.{MaskHas};
-ghost use Rattle.row_runs.specs.Runs.{RunFits, weighed_run, weighed_row};
+ghost use Rattle.admitted_sum.specs.Masks.{HasCells};
+ghost use Rattle.row_runs.specs.Runs.{HeadRunFits, weighed_run, weighed_row};
 
+use caches::HeadCache;
 use call::Call;
+use row_steps::RowMask;
 
 // The output row with the weighted values of the admitted positions from `from` on added, as many as there are weights, all in one of the two tensors.
-fn weigh_run<'a>(
+fn weigh_run(
     call: Call,
-    bytes: &[u8],
-    cells: &[f32],
-    at: usize,
-    past: &'a [f32],
-    incoming: &'a [f32],
-    b: usize,
-    g: usize,
+    mask: RowMask<'_>,
+    cache: HeadCache<'_>,
     from: usize,
     weights: &[f32],
     out: &mut [f32],
 )
-    requires out_len { length out.old ≡ call.vsize }
-    requires run_fits { RunFits call (length past.now) (length incoming.now) call.vsize b g from (length weights.now) }
-    requires weights_bound { (at + from + length weights.now < 0x100000000) × ((k : ℕ) → k < from + length weights.now → MaskHas call.mask (length bytes.now) (length cells.now) (at + repeated call.maskk k)) }
-    ensures { out.new ≡ weighed_run call bytes.now cells.now at past.now incoming.now b g from weights.now out.old }
+    requires out_len { length out.old ≡ cache.size }
+    requires run_fits { HeadRunFits call cache from (length weights.now) }
+    requires weights_bound { HasCells mask (from + length weights.now) }
+    ensures { out.new ≡ weighed_run call mask.entry cache.entry from weights.now out.old }
 {
     if weights.len() == 0 {
         return;
     }
-    let size = call.vsize;
-    let kind = call.mask;
-    let values = caches_rows::run_of(call, past, incoming, size, b, g, from, weights.len());
-    let stride = caches_rows::row_stride(call, size, from);
-    admitted_sum::weigh_admitted(
-        kind, bytes, cells, at, call.maskk, from, weights, values, stride, out,
-    );
+    let values = caches_rows::run_of(call, cache, from, weights.len());
+    let stride = caches_rows::row_stride(call, cache.size, from);
+    admitted_sum::weigh_admitted(mask, from, weights, values, stride, out);
 }
 
 // The output row with the weighted values of the admitted positions from 0 on added, as many as there are weights: those of the past cache, then those of the incoming tensor.
-fn weigh_positions<'a>(
+fn weigh_positions(
     call: Call,
-    bytes: &[u8],
-    cells: &[f32],
-    at: usize,
-    past: &'a [f32],
-    incoming: &'a [f32],
-    b: usize,
-    g: usize,
+    mask: RowMask<'_>,
+    cache: HeadCache<'_>,
     weights: &[f32],
     out: &mut [f32],
 )
-    requires out_len { length out.old ≡ call.vsize }
-    requires run_fits { RunFits call (length past.now) (length incoming.now) call.vsize b g call.past 0 }
+    requires out_len { length out.old ≡ cache.size }
+    requires run_fits { HeadRunFits call cache call.past 0 }
     requires weights_len_bound { length weights.now ≤ total_of call }
-    requires weights_bound { (at + length weights.now < 0x100000000) × ((k : ℕ) → k < length weights.now → MaskHas call.mask (length bytes.now) (length cells.now) (at + repeated call.maskk k)) }
-    ensures { out.new ≡ weighed_row call bytes.now cells.now at past.now incoming.now b g weights.now out.old }
+    requires weights_bound { HasCells mask (length weights.now) }
+    ensures { out.new ≡ weighed_row call mask.entry cache.entry weights.now out.old }
 {
-    let cut = row_scores::smaller(call.past, weights.len());
-    weigh_run(
-        call,
-        bytes,
-        cells,
-        at,
-        past,
-        incoming,
-        b,
-        g,
-        0,
-        &weights[..cut],
-        out,
-    );
-    weigh_run(
-        call,
-        bytes,
-        cells,
-        at,
-        past,
-        incoming,
-        b,
-        g,
-        cut,
-        &weights[cut..],
-        out,
-    );
+    let cut = call.past.min(weights.len());
+    weigh_run(call, mask, cache, 0, &weights[..cut], out);
+    weigh_run(call, mask, cache, cut, &weights[cut..], out);
 }
 
 // The output row: from +0, the weighted values of the admitted positions from 0 on, as many as there are weights.
-pub fn output_row<'a>(
+pub fn output_row(
     call: Call,
-    bytes: &[u8],
-    cells: &[f32],
-    at: usize,
-    past: &'a [f32],
-    incoming: &'a [f32],
-    b: usize,
-    g: usize,
+    mask: RowMask<'_>,
+    cache: HeadCache<'_>,
     weights: &[f32],
     out: &mut [f32],
 )
-    requires out_len { length out.old ≡ call.vsize }
-    requires run_fits { RunFits call (length past.now) (length incoming.now) call.vsize b g call.past 0 }
+    requires out_len { length out.old ≡ cache.size }
+    requires run_fits { HeadRunFits call cache call.past 0 }
     requires weights_len_bound { length weights.now ≤ total_of call }
-    requires weights_bound { (at + length weights.now < 0x100000000) × ((k : ℕ) → k < length weights.now → MaskHas call.mask (length bytes.now) (length cells.now) (at + repeated call.maskk k)) }
-    ensures { out.new ≡ weighed_row call bytes.now cells.now at past.now incoming.now b g weights.now (replicate call.vsize plus_zero) }
+    requires weights_bound { HasCells mask (length weights.now) }
+    ensures { out.new ≡ weighed_row call mask.entry cache.entry weights.now (replicate cache.entry.size plus_zero) }
 {
     row_copies::fill_row(out, 0.0);
-    weigh_positions(call, bytes, cells, at, past, incoming, b, g, weights, out);
+    weigh_positions(call, mask, cache, weights, out);
 }

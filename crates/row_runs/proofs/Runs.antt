@@ -2,9 +2,8 @@
 use mathlib.Core.Path.{◌≡◌, refl, ap, ◌∙◌}
 use mathlib.Core.Bool.{Bool}
 use mathlib.Core.List.{List}
-use Prim.Native.Nat.{ℕ, ◌+◌, ◌-◌, ◌*◌, ◌≤◌, ◌<◌}
+use Prim.Native.Nat.{ℕ, ◌+◌, ◌-◌, ◌*◌, ◌≤◌, ◌<◌, min}
 use native.Mathlib.Nat.{zero-add, add-sub_of_le}
-use native.Mathlib.Decide.{dec_lt}
 use native.Mathlib.Omega.{arith}
 use lib.ListN.{length, take}
 use lib.Seq.{length-take-le, get_or-take}
@@ -22,7 +21,7 @@ use Rattle.caches.proofs.Positions.{row_in_run, run_cell}
 use Rattle.admitted_sum.specs.Sums.{added_row_of}
 use Rattle.tensor_laws.proofs.Tails.{part_of, length_part, get_or_part}
 use Rattle.admitted_sum.proofs.Added.{added_row_agree, added_row_runs}
-use Rattle.row_runs.specs.Runs.{Smaller, RunFits}
+use Rattle.row_runs.specs.Runs.{RunFits}
 
 -- a run that is not empty starts with the row of a position
 pub run_start : {c : Call} {past_length incoming_length size b g from n : ℕ} → RunFits c past_length incoming_length size b g from n → 0 < n → CacheFits c past_length incoming_length size b g from
@@ -33,16 +32,12 @@ run_within : {c : Call} {past_length incoming_length size b g from n : ℕ} → 
 run_within f p q = record { limits = f.limits; size_some = f.size_some; size_most = f.size_most; past_length_is = f.past_length_is; incoming_length_is = f.incoming_length_is; batch = f.batch; head = f.head; together = p; inside = q }
 
 -- n positions from 0 on in two runs, of which the first ends at the smaller of P and n
-module _ (c : Call) (past_length incoming_length size b g n cut : ℕ) (f : RunFits c past_length incoming_length size b g c.past 0) (l : n ≤ total_of c) (s : Smaller c.past n cut) where
+module _ (c : Call) (past_length incoming_length size b g n cut : ℕ) (f : RunFits c past_length incoming_length size b g c.past 0) (l : n ≤ total_of c) (s : cut ≡ min c.past n) where
   pub first_run : (k : ℕ) → k ≡ cut → RunFits c past_length incoming_length size b g 0 k
-  first_run k e = run_within f (λ h. omega (arith, s.first)) (omega (arith, s.second))
+  first_run k e = run_within f (λ h. omega (arith, s)) (omega (arith, s))
 
   pub second_run : (k : ℕ) → k ≡ n - cut → RunFits c past_length incoming_length size b g cut k
-  second_run k e = run_within f (λ h. go h (dec_lt cut n)) (omega (arith, s.second))
-    where
-      go : cut < c.past → Dec (cut < n) → cut + k ≤ c.past
-      go h (yes m) = absurd (omega (arith, s.reached m))
-      go h (no m) = omega arith
+  second_run k e = run_within f (λ h. omega (arith, s)) (omega (arith, s))
 
 module _ (c : Call) (past incoming : List Float) (size b g from n : ℕ) (f : RunFits c (length past) (length incoming) size b g from n) where
   -- each row ends inside the part

@@ -4,16 +4,11 @@
 ghost use Rattle.std.specs.Prelude.{◌≡◌, ◌≤◌, true, length};
 ghost use Rattle.row_steps.specs.Steps.{shows_of, shown_where};
 
-use call::ScoreMode;
-
 // Whether the score mode is one of those from low to high.
-pub fn shows(mode: ScoreMode, low: usize, high: usize) -> bool
+pub fn shows(mode: Option<usize>, low: usize, high: usize) -> bool
     ensures { result ≡ shows_of mode low high }
 {
-    match mode {
-        ScoreMode::NoScores => false,
-        ScoreMode::Mode(m) => { if low <= m { m <= high } else { false } }
-    }
+    mode.is_some_and(|m| (low..=high).contains(&m))
 }
 
 // The elements become those of another row, and the rest of them x, where `on` holds.
@@ -22,8 +17,8 @@ pub fn show(on: bool, row: &[f32], x: f32, shown: &mut [f32])
     ensures { shown.new ≡ shown_where on x row.now shown.old }
 {
     if on {
-        let n = row.len();
-        row_copies::copy_row(row, &mut shown[..n]);
-        row_copies::fill_row(&mut shown[n..], x);
+        let (first, rest) = shown.split_at_mut(row.len());
+        row_copies::copy_row(row, first);
+        row_copies::fill_row(rest, x);
     }
 }

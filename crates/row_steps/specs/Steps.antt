@@ -1,5 +1,5 @@
 -- What the steps of a row do to its lists: the run of positions that it may see, the mask and the cap on a row of scores, softmax, and the scores shown. Definitions only.
-use Rattle.std.specs.Prelude.{◌≡◌, Bool, true, false, ◌&&◌, cond, List, ◌++◌, ℕ, ◌+◌, ◌-◌, ◌<◌, ◌≤◌, eqb, leb, length, get_or, replicate, Float}
+use Rattle.std.specs.Prelude.{◌≡◌, Bool, true, false, ◌&&◌, cond, List, ◌++◌, ℕ, ◌+◌, ◌-◌, ◌<◌, ◌≤◌, eqb, leb, length, get_or, replicate, Float, Option, Some, None}
 use Rattle.std.specs.Float.{binary32}
 use Rattle.std.specs.Float.Ieee.{add}
 use Rattle.tensor_laws.specs.Layout.{tabulate}
@@ -9,8 +9,6 @@ use Rattle.softmax.specs.Cap.{capped_row_where}
 use Rattle.call.specs.declared.Call.{Call}
 use Rattle.call.specs.declared.MaskKind.{MaskKind}
 use Rattle.call.specs.declared.MaskKind.TheVariants.{NoMask, Boolean, FloatMask}
-use Rattle.call.specs.declared.ScoreMode.{ScoreMode}
-use Rattle.call.specs.declared.ScoreMode.TheVariants.{NoScores, Mode}
 use Rattle.attention.specs.Admission.{mask_index, reach}
 
 -- ---- the run of positions that row i may see
@@ -49,9 +47,9 @@ masked_row_by kind bytes cells index row = tabulate (length row) (λ j. masked_b
 -- ---- the scores shown
 
 -- the mode is one of those from low to high
-abbrev pub shows_of : ScoreMode → (low high : ℕ) → Bool
-shows_of NoScores low high = false
-shows_of (Mode m) low high = leb low m && leb m high
+abbrev pub shows_of : Option ℕ → (low high : ℕ) → Bool
+shows_of None low high = false
+shows_of (Some m) low high = leb low m && leb m high
 
 -- a row, and behind it as many times `rest` as n leaves
 abbrev pub padded_to : ℕ → Float → List Float → List Float
@@ -65,12 +63,12 @@ shown_where false rest row shown = shown
 -- ---- the cap, and softmax
 
 -- Step 2 and the cap leave the scores under both; mode 1 shows the scores under the mask, and mode 2 those under the cap.
-pub record CapDone (mode : ScoreMode) (softcap : Float) (masked shown₀ shown row : List Float) : Type 0 where
+pub record CapDone (mode : Option ℕ) (softcap : Float) (masked shown₀ shown row : List Float) : Type 0 where
   pub scores : row ≡ capped_row_where softcap masked
   pub shows : shown ≡ shown_where (shows_of mode 2 2) hidden (capped_row_where softcap masked) (shown_where (shows_of mode 1 1) hidden masked shown₀)
 
 -- Steps 2 to 4 leave the weights of the scores under the mask and the cap and +0 behind them, n elements in all, and tell whether the scores are fully masked; mode 3 shows the weights.
-pub record SoftmaxDone (mode : ScoreMode) (softcap : Float) (masked shown₀ : List Float) (n : ℕ) (shown work : List Float) (fully : Bool) : Type 0 where
+pub record SoftmaxDone (mode : Option ℕ) (softcap : Float) (masked shown₀ : List Float) (n : ℕ) (shown work : List Float) (fully : Bool) : Type 0 where
   pub weights : work ≡ padded_to n plus_zero (softmax_row_of (capped_row_where softcap masked))
   pub told : fully ≡ fully_masked_row_of (capped_row_where softcap masked)
   pub shows : shown ≡ shown_where (shows_of mode 3 3) plus_zero work (shown_where (shows_of mode 2 2) hidden (capped_row_where softcap masked) (shown_where (shows_of mode 1 1) hidden masked shown₀))

@@ -3,35 +3,21 @@
 
 ghost use Rattle.std.specs.Prelude.{◌≡◌, ◌+◌, ◌<◌, true};
 ghost use Rattle.call.specs.Limits.{limits_hold, mask_shape_holds};
-ghost use Rattle.attention.specs.Admission.{reach, repeated};
+ghost use Rattle.attention.specs.Admission.{repeated};
 ghost use Rattle.row_steps.specs.Steps.{visible_of, mask_start};
 
-use call::{Call, Form, MaskKind};
+use call::{Call, MaskKind};
 
-// How far row i reaches when the call is causal.
-fn reach(call: Call, live: usize, i: usize) -> usize
-    requires { call.past + i < 4096 }
-    ensures { result ≡ reach call.form call.past live i }
-{
-    let form = call.form;
-    match form {
-        Form::Plain => call.past + i,
-        Form::Cached => call.past + i,
-        Form::Counted => call.past + i,
-    }
-}
-
-// How many positions, from 0, row i may see: those below the live count and, when causal, up to the last causal one.
+// How many positions, from 0, row i may see: those below the live count and, when causal, up to the last causal one, which is P + i in every form.
+#[tactic(auto, using(attention::proofs::Reached::reach_is))]
 pub fn visible(call: Call, live: usize, i: usize) -> usize
     requires { call.past + i < 4096 }
     ensures { result ≡ visible_of call live i }
 {
-    let causal = call.causal;
-    if causal == 0 {
+    if call.causal == 0 {
         return live;
     }
-    let end = reach(call, live, i) + 1;
-    if live <= end { live } else { end }
+    live.min(call.past + i + 1)
 }
 
 // x, and 0 in a dimension of 1, which is repeated.
@@ -47,8 +33,7 @@ pub fn mask_start(call: Call, b: usize, h: usize, i: usize) -> usize
     requires b_lt_batches { (b < call.batches) × (h < call.qheads) × (i < call.qlen) }
     ensures { result ≡ mask_start call.mask call b h i }
 {
-    let kind = call.mask;
-    if let MaskKind::NoMask = kind {
+    if let MaskKind::NoMask = call.mask {
         return 0;
     }
     let batch = repeated_at(call.maskb, b);

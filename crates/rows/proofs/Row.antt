@@ -1,4 +1,5 @@
 -- The lists of a row of an accepted call as its steps leave them: its scores under the mask and the cap are a row of scores, and its weights, whether it is fully masked, its output and what is shown of it are the formula's. Assumes nothing.
+use Rattle.std.specs.Prelude.{Option, Some, None}
 use mathlib.Core.Path.{◌≡◌, refl, sym, ap, ◌∙◌}
 use mathlib.Core.List.{List, [], ◌∷◌, ◌++◌}
 use Prim.Native.Nat.{ℕ, zero, suc, ◌+◌, ◌-◌, ◌≤◌, ◌<◌}
@@ -22,8 +23,6 @@ use Rattle.softmax.proofs.Scores.{is_score}
 use Rattle.softmax.proofs.Positions.{tabulated_scores, marked_masked, marked_weights}
 use Rattle.call.specs.declared.Call.{Call}
 use Rattle.call.specs.Tensors.{Inputs, Outputs}
-use Rattle.call.specs.declared.ScoreMode.{ScoreMode}
-use Rattle.call.specs.declared.ScoreMode.TheVariants.{NoScores, Mode}
 use Rattle.call.specs.Limits.{total_of, mode_allowed}
 use Rattle.call.specs.Lengths.{in_scores}
 use Rattle.call.specs.Contents.{live_of}
@@ -180,14 +179,14 @@ module _ {c : Call} {x : Inputs} {y : Outputs} (a : Accepts c x y) (fit : MaskFi
   shown_whole f z = padded_tabulate (total_of c) (total_of c) f f z (le_refl (total_of c)) (λ j l. refl) (λ j l m. absurd (omega arith))
 
   -- the scores shown after the four steps that may show them: the scores of step 1, those under the mask, those under the cap, the weights
-  pub shown_steps : (mode : ScoreMode) → T (mode_allowed mode) → (shown : List Float) → length shown ≡ in_scores mode (total_of c) → (z : Float)
+  pub shown_steps : (mode : Option ℕ) → T (mode_allowed mode) → (shown : List Float) → length shown ≡ in_scores mode (total_of c) → (z : Float)
       → shown_where (shows_of mode 3 3) z (tabulate (total_of c) (attention_weight c x b h i)) (shown_where (shows_of mode 2 2) hidden marks (shown_where (shows_of mode 1 1) hidden masked_marks (shown_where (shows_of mode 0 0) plus_zero (tabulate (cond (shows_of mode 0 0) live (visible a b h i hb hh hi)) (dot_score c x b h i)) shown)))
       ≡ tabulate (in_scores mode (total_of c)) (shown_at mode c x b h i)
   unfolding tabulate
-  shown_steps NoScores t [] e z = refl
-  shown_steps NoScores t (s ∷ shown) e z = absurd (omega arith)
-  shown_steps (Mode zero) t shown e z = ap (λ (m : ℕ). padded_to m plus_zero (tabulate live (dot_score c x b h i))) e ∙ shown_dots
-  shown_steps (Mode (suc zero)) t shown e z = ap (λ (m : ℕ). padded_to m hidden masked_marks) e ∙ shown_marks (masked_score c x b h i)
-  shown_steps (Mode (suc (suc zero))) t shown e z = ap (λ (m : ℕ). padded_to m hidden marks) e ∙ shown_marks (capped_score c x b h i)
-  shown_steps (Mode (suc (suc (suc zero)))) t shown e z = ap (λ (m : ℕ). padded_to m z (tabulate (total_of c) (attention_weight c x b h i))) e ∙ shown_whole (attention_weight c x b h i) z
-  shown_steps (Mode (suc (suc (suc (suc m))))) t shown e z = let l : suc (suc (suc (suc m))) ≤ 3 = leb→le (suc (suc (suc (suc m)))) 3 t in absurd (omega arith)
+  shown_steps None t [] e z = refl
+  shown_steps None t (s ∷ shown) e z = absurd (omega arith)
+  shown_steps (Some zero) t shown e z = ap (λ (m : ℕ). padded_to m plus_zero (tabulate live (dot_score c x b h i))) e ∙ shown_dots
+  shown_steps (Some (suc zero)) t shown e z = ap (λ (m : ℕ). padded_to m hidden masked_marks) e ∙ shown_marks (masked_score c x b h i)
+  shown_steps (Some (suc (suc zero))) t shown e z = ap (λ (m : ℕ). padded_to m hidden marks) e ∙ shown_marks (capped_score c x b h i)
+  shown_steps (Some (suc (suc (suc zero)))) t shown e z = ap (λ (m : ℕ). padded_to m z (tabulate (total_of c) (attention_weight c x b h i))) e ∙ shown_whole (attention_weight c x b h i) z
+  shown_steps (Some (suc (suc (suc (suc m))))) t shown e z = let l : suc (suc (suc (suc m))) ≤ 3 = leb→le (suc (suc (suc (suc m)))) 3 t in absurd (omega arith)

@@ -1,4 +1,5 @@
 -- The rows of one query head one after the other: what is done before the first, after one more, and after the last. Assumes nothing.
+use Rattle.std.specs.Prelude.{Option, Some, None}
 use mathlib.Core.Path.{◌≡◌, refl, sym, ap, ◌∙◌}
 use mathlib.Core.Logic.{◌≢◌}
 use mathlib.Core.Bool.{Bool, true, false, ◌&&◌, and-false}
@@ -18,8 +19,6 @@ use Rattle.tensor_laws.proofs.Tabulate.{length_tabulate, get_or_tabulate}
 use Rattle.tensor_laws.proofs.Parts.{with_part}
 use Rattle.tensor_laws.proofs.Written.{written_none, written_row, length_written}
 use Rattle.call.specs.declared.Call.{Call}
-use Rattle.call.specs.declared.ScoreMode.{ScoreMode}
-use Rattle.call.specs.declared.ScoreMode.TheVariants.{NoScores, Mode}
 use Rattle.call.specs.Limits.{total_of}
 use Rattle.call.specs.Lengths.{output_length, scores_length, in_scores}
 use Rattle.call.specs.Tensors.{Inputs}
@@ -59,14 +58,14 @@ module _ (b h first i : ℕ) (l : first ≤ i) where
       go (yes p) (yes q) (no y) = ap (λ (t : Bool). eqb b' b && eqb h' h && leb first i' && t) (same y)
 
 -- ---- the scores' length, by rows
-pub scores_by_rows : (mode : ScoreMode) (n total : ℕ) → in_scores mode (n * total) ≡ n * in_scores mode total
-scores_by_rows NoScores n total = sym (mul-zero n)
-scores_by_rows (Mode m) n total = refl
+pub scores_by_rows : (mode : Option ℕ) (n total : ℕ) → in_scores mode (n * total) ≡ n * in_scores mode total
+scores_by_rows None n total = sym (mul-zero n)
+scores_by_rows (Some m) n total = refl
 
 -- no more scores are shown of a row than there are positions
-pub shown_most : (mode : ScoreMode) (total : ℕ) → in_scores mode total ≤ total
-shown_most NoScores total = zero-le
-shown_most (Mode m) total = le_refl total
+pub shown_most : (mode : Option ℕ) (total : ℕ) → in_scores mode total ≤ total
+shown_most None total = zero-le
+shown_most (Some m) total = le_refl total
 
 module _ (c : Call) (x : Inputs) (b h first count : ℕ) (hb : b < c.batches) (hh : h < c.qheads) (inside : first + count ≤ c.qlen) (y₀ s₀ : List Float) where
   -- the rows of the unit before row i are done

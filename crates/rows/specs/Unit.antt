@@ -1,13 +1,10 @@
 -- The unit of work: the rows of one query head from `first` for `count`. What is asked of its caller, which rows it writes, and what is shown of a row. Definitions only.
-use Rattle.std.specs.Prelude.{◌≡◌, Bool, ◌&&◌, List, ℕ, ◌+◌, ◌-◌, eqb, leb, ltb, Float}
+use Rattle.std.specs.Prelude.{◌≡◌, Bool, ◌&&◌, List, ℕ, ◌+◌, ◌-◌, eqb, leb, ltb, Float, Option, Some, None, Ok}
 use Rattle.std.specs.Float.{nan}
 use Rattle.bool_laws.specs.Counts.{count_where}
 use Rattle.tensor_laws.specs.Layout.{tabulate, written_of}
 use Rattle.exponential.specs.ExpNeg.{plus_zero}
 use Rattle.call.specs.declared.Call.{Call}
-use Rattle.call.specs.declared.ScoreMode.{ScoreMode}
-use Rattle.call.specs.declared.ScoreMode.TheVariants.{NoScores, Mode}
-use Rattle.call.specs.declared.Verdict.TheVariants.{Accepted}
 use Rattle.call.specs.Limits.{total_of}
 use Rattle.call.specs.Lengths.{in_scores}
 use Rattle.call.specs.Tensors.{Inputs, Outputs}
@@ -15,9 +12,9 @@ use Rattle.call.specs.Refusals.{verdict_of}
 use Rattle.attention.specs.Formula.{effective_scale, attention_output, attention_weight, row_masked, shown_score}
 
 -- what is shown of row (b, h, i) at key j; without a mode the scores are empty
-abbrev pub shown_at : ScoreMode → Call → Inputs → (b h i j : ℕ) → Float
-shown_at NoScores c x b h i j = plus_zero
-shown_at (Mode m) c x b h i j = shown_score m c x b h i j
+abbrev pub shown_at : Option ℕ → Call → Inputs → (b h i j : ℕ) → Float
+shown_at None c x b h i j = plus_zero
+shown_at (Some m) c x b h i j = shown_score m c x b h i j
 
 -- the row (b', h', i') is one of those of head h in batch b from first for count
 abbrev pub is_unit_row : (b h first count : ℕ) → (b' h' i' : ℕ) → Bool
@@ -28,7 +25,7 @@ is_unit_row b h first count b' h' i' = eqb b' b && eqb h' h && leb first i' && l
 -- the call is one to which no refusal applies, with some tensors lent for writing, and that is its scale
 pub record Accepting (c : Call) (x : Inputs) (scale : Float) : Type 0 where
   pub lent : Outputs
-  pub accepted : verdict_of c x lent ≡ Accepted
+  pub accepted : verdict_of c x lent ≡ Ok tt
   pub scale_is : scale ≡ effective_scale c
 
 -- ---- what is left

@@ -8,23 +8,16 @@ ghost use Rattle.call.specs.Lengths.{in_scores};
 ghost use Rattle.attention.specs.Elements.{key_head_of};
 ghost use Rattle.attention.specs.Formula.{effective_scale};
 
-use call::{Call, Scale, ScoreMode};
-use tables::DefaultScale;
+use call::{Call, Scale};
 
 // The scale as given, or the default for the head size.
+#[tactic(auto, unfolding(attention::specs::Formula::effective_scale))]
 pub fn effective_scale(call: Call) -> f32
     ensures { result ≡ effective_scale call }
 {
-    let scale = call.scale;
-    match scale {
+    match call.scale {
         Scale::Given(x) => x,
-        Scale::Absent => {
-            let default = tables::default_scale(call.size);
-            match default {
-                DefaultScale::ScaleIs(x) => x,
-                DefaultScale::NoScale => 0.0,
-            }
-        }
+        Scale::Absent => tables::default_scale(call.size).unwrap_or(0.0),
     }
 }
 
@@ -47,7 +40,7 @@ pub fn scored(dots: bool, live: usize, n: usize) -> usize
 pub fn tally_of(t: bool) -> usize
     ensures { result ≡ tally t }
 {
-    if t { 1 } else { 0 }
+    usize::from(t)
 }
 
 // How many scores are shown of a row.
@@ -55,9 +48,8 @@ pub fn shown_width(call: Call) -> usize
     requires { total_of call ≤ 2048 }
     ensures { result ≡ in_scores call.mode (total_of call) }
 {
-    let mode = call.mode;
-    match mode {
-        ScoreMode::NoScores => 0,
-        ScoreMode::Mode(_) => call.past + call.klen,
+    match call.mode {
+        None => 0,
+        Some(_) => call.past + call.klen,
     }
 }

@@ -1,4 +1,5 @@
 -- Positions that a writer adds extend the history that a file holds, and a cut leaves its first ones. Assumes nothing.
+use Rattle.std.specs.Prelude.{Ok, Err}
 use mathlib.Core.Path.{◌≡◌, sym, ap, ◌∙◌}
 use mathlib.Core.Bool.{cond}
 use mathlib.Core.List.{List, ◌++◌}
@@ -15,8 +16,7 @@ use Rattle.tensor_laws.proofs.Slots.{right_factor_pos}
 use Rattle.call.specs.declared.Call.{Call}
 use Rattle.attention.specs.Elements.{cell_at}
 use Rattle.session_file.specs.declared.Sizes.{Sizes}
-use Rattle.session_file.specs.declared.Reading.{Reading}
-use Rattle.session_file.specs.declared.Reading.TheVariants.{SessionRead, NotRead}
+use Rattle.session_file.specs.Reader.{Reading, session_read}
 use Rattle.session_file.specs.Form.{Session, session_of, cache_cell, cache_of}
 use Rattle.session_file.specs.Reader.{session_at}
 use Rattle.session_laws.specs.Sessions.{cell_behind, first_positions, both_of}
@@ -106,7 +106,7 @@ cut_holds s file history c h l inside =
     let x = read_holds file z (length history) h.reads in
     let e : length (take k history) ≡ k = length-take-le k history (x.fewer c l inside) in
     record {
-      reads = x.cut c l inside ∙ ap (SessionRead z) (sym e);
+      reads = x.cut c l inside ∙ ap (session_read z) (sym e);
       session =
           ap (session_at z (take c file)) e
           ∙ x.same c l inside
@@ -117,12 +117,12 @@ cut_holds s file history c h l inside =
 -- ---- the writer
 
 abbrev sizes_in : Sizes → Reading → Sizes
-sizes_in z (SessionRead y n) = y
-sizes_in z (NotRead r) = z
+sizes_in z (Ok s) = s.sizes
+sizes_in z (Err r) = z
 
 abbrev positions_in : Reading → ℕ
-positions_in (SessionRead z n) = n
-positions_in (NotRead r) = 0
+positions_in (Ok s) = s.positions
+positions_in (Err r) = 0
 
 pub append_extends : (s : Call) (history ps : List Position) → AppendExtends s history ps
 unfolding history_session
@@ -134,7 +134,7 @@ append_extends s history ps buffer used m u left kf vf h e =
     let n : x.n ≡ length history = ap positions_in (sym x.file ∙ reads) in
     let t : m ≡ length (history ++ ps) = x.total ∙ ap (λ (i : ℕ). i + length ps) n ∙ sym (length-append history ps) in
     record {
-      reads = x.reads ∙ (λ i. SessionRead (z i) (t i));
+      reads = x.reads ∙ (λ i. session_read (z i) (t i));
       session =
           (λ i. session_at (sym z i) (take u left) (sym t i))
           ∙ x.session

@@ -1,4 +1,5 @@
 -- A recording in chunks that is saved, read back and continued has the states, outcomes and histories of one that is never stopped; positions that a writer adds extend the history that a file holds. Assumes nothing.
+use Rattle.std.specs.Prelude.{Err}
 use mathlib.Core.Path.{◌≡◌, refl, sym, ap, ◌∙◌}
 use mathlib.Core.Bool.{true, cond}
 use mathlib.Core.List.{List, [], ◌∷◌, ◌++◌}
@@ -7,8 +8,7 @@ use lib.Ieee.{Float}
 use lib.ListN.{length}
 use Rattle.call.specs.declared.Refusal.TheVariants.{OutputLength}
 use Rattle.call.specs.declared.Call.{Call}
-use Rattle.session_file.specs.declared.Reading.{Reading}
-use Rattle.session_file.specs.declared.Reading.TheVariants.{SessionRead, NotRead}
+use Rattle.session_file.specs.Reader.{Reading, session_read}
 use Rattle.session_file.specs.Sizes.{sizes_hold}
 use Rattle.session_file.specs.Form.{file_of}
 use Rattle.session_file.specs.Reader.{session_at, caches_fit, loaded, loaded_of, load_of}
@@ -42,12 +42,12 @@ module _ (s : Call) (chunks : List Chunk) where
     unfolding resumed
     state_back = ap state_in h.session ∙ state_is
 
-    load_back : (keys values : List Float) → caches_fit (sizes_for s) (length history) (length keys) (length values) ≡ true → load_of file keys values ≡ loaded (SessionRead (sizes_for s) (length history)) st.key st.value
+    load_back : (keys values : List Float) → caches_fit (sizes_for s) (length history) (length keys) (length values) ≡ true → load_of file keys values ≡ loaded (session_read (sizes_for s) (length history)) st.key st.value
     unfolding load_of loaded_of resumed
     load_back keys values f =
         ap (λ (x : Reading). loaded_of x file keys values) h.reads
-        ∙ (λ i. cond (f i) (loaded (SessionRead (sizes_for s) (length history)) (session_at (sizes_for s) file (length history)).keys (session_at (sizes_for s) file (length history)).values) (loaded (NotRead OutputLength) keys values))
-        ∙ ap (λ (x : State). loaded (SessionRead (sizes_for s) (length history)) x.key x.value) state_back
+        ∙ (λ i. cond (f i) (loaded (session_read (sizes_for s) (length history)) (session_at (sizes_for s) file (length history)).keys (session_at (sizes_for s) file (length history)).values) (loaded (Err OutputLength) keys values))
+        ∙ ap (λ (x : State). loaded (session_read (sizes_for s) (length history)) x.key x.value) state_back
 
     -- every file that holds the history of a sequence of chunks is taken up as that sequence
     pub resumes : Resumes s chunks file

@@ -9,8 +9,7 @@ use lib.ListN.{length, get_or, take, replicate}
 use Rattle.call.specs.Profile.{general, step, profile_holds}
 use Rattle.attention.specs.Outcomes.{attention_of}
 use Rattle.attention.specs.Table.{call_e}
-use Rattle.session_file.specs.declared.Saving.TheVariants.{Saved}
-use Rattle.session_file.specs.Writer.{Written, written, begin_of, append_of}
+use Rattle.session_file.specs.Writer.{Written, written, begin_of, append_of, saved}
 use Rattle.session_laws.specs.Statements.{AllFit}
 use Rattle.sequence.specs.Positions.{Position, key_cache, value_cache}
 use Rattle.sequence.specs.Chunks.{entry_run, start, positions_of, history_after}
@@ -33,15 +32,15 @@ first = append_of empty.buffer 14 1 (key_cache call_e one) (value_cache call_e o
 abbrev second : Written
 second = append_of first.buffer 28 1 (key_cache call_e two) (value_cache call_e two)
 
-saved_none : empty ≡ written (Saved 0 14) empty.buffer
+saved_none : empty ≡ written (saved 0 14) empty.buffer
 unfolding begin_of
 saved_none = refl
 
-saved_one : first ≡ written (Saved 1 28) first.buffer
+saved_one : first ≡ written (saved 1 28) first.buffer
 unfolding begin_of append_of key_cache value_cache positions_of
 saved_one = refl
 
-saved_two : second ≡ written (Saved 2 42) second.buffer
+saved_two : second ≡ written (saved 2 42) second.buffer
 unfolding begin_of append_of key_cache value_cache positions_of
 saved_two = refl
 

@@ -6,9 +6,8 @@ use lib.ListN.{take}
 use lib.Seq.{take-take}
 use Rattle.tensor_laws.proofs.Tabulate.{none_long}
 use Rattle.call.specs.declared.Call.{Call}
-use Rattle.session_file.specs.declared.Saving.TheVariants.{Saved}
 use Rattle.session_file.specs.Form.{session_of}
-use Rattle.session_file.specs.Writer.{Written, written, begin_of}
+use Rattle.session_file.specs.Writer.{Written, written, begin_of, saved}
 use Rattle.session_laws.proofs.Saved.{whole_least}
 use Rattle.session_laws.proofs.Begun.{no_cells, begin_holds}
 use Rattle.session_laws.proofs.Passed.{is_saved}
@@ -27,7 +26,7 @@ no_history s =
     let values = none_long (value_cache s []) (value_cache_length s [] ∙ no_cells (s.batches * s.kvheads) s.vsize) in
     λ i. session_of (sizes_for s) 0 (keys i) (values i)
 
-begun_holds : (s : Call) (buffer left : List ℕ) (m u : ℕ) → begin_of buffer (sizes_for s) ≡ written (Saved m u) left → FileHolds s (take u left) []
+begun_holds : (s : Call) (buffer left : List ℕ) (m u : ℕ) → begin_of buffer (sizes_for s) ≡ written (saved m u) left → FileHolds s (take u left) []
 begun_holds s buffer left m u e =
     let x = begin_holds buffer (sizes_for s) m u left e in
     record { reads = x.reads; session = x.session ∙ sym (no_history s) }

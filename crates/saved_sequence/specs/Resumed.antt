@@ -1,14 +1,12 @@
 -- A recording in chunks that is saved, read back and continued, against one that is never stopped. Definitions only.
-use Rattle.std.specs.Prelude.{◌≡◌, List, [], ◌∷◌, ◌++◌, ℕ, ◌≤◌, true, Float, length, take}
+use Rattle.std.specs.Prelude.{◌≡◌, List, [], ◌∷◌, ◌++◌, ℕ, ◌≤◌, true, Float, length, take, Err}
 use Rattle.call.specs.declared.Refusal.{Refusal}
 use Rattle.call.specs.declared.Call.{Call}
 use Rattle.session_file.specs.declared.Sizes.{Sizes}
-use Rattle.session_file.specs.declared.Reading.TheVariants.{SessionRead}
-use Rattle.session_file.specs.declared.Saving.TheVariants.{Saved, NotSaved}
 use Rattle.session_file.specs.Sizes.{record_start}
 use Rattle.session_file.specs.Form.{Session, session_of}
-use Rattle.session_file.specs.Reader.{read_of, session_at, caches_fit, loaded, load_of}
-use Rattle.session_file.specs.Writer.{written, begin_of, append_of}
+use Rattle.session_file.specs.Reader.{read_of, session_at, caches_fit, loaded, load_of, session_read}
+use Rattle.session_file.specs.Writer.{written, begin_of, append_of, saved}
 use Rattle.session_laws.specs.Statements.{whole_in, AllFit}
 use Rattle.sequence.specs.Positions.{Position, key_cache, value_cache}
 use Rattle.sequence.specs.Chunks.{entry_run, Chunk, State, start, chunk_outcome, state_after, history_after}
@@ -28,7 +26,7 @@ history_session s history = session_of (sizes_for s) (length history) (key_cache
 
 -- A file holds a history: the reader gives as many positions of those sizes, and what stands in them is the history's.
 pub record FileHolds (s : Call) (file : List ℕ) (history : List Position) : Type 0 where
-  pub reads : read_of file ≡ SessionRead (sizes_for s) (length history)
+  pub reads : read_of file ≡ session_read (sizes_for s) (length history)
   pub session : session_at (sizes_for s) file (length history) ≡ history_session s history
 
 -- ---- read back and continued
@@ -44,7 +42,7 @@ pub record Resumes (s : Call) (chunks : List Chunk) (file : List ℕ) : Type 0 w
   pub state : resumed s file (length (history_after entry_run s start [] chunks)) ≡ state_after entry_run s start chunks
   -- and so is what a load leaves in caches of the right lengths
   pub loads : (keys values : List Float) → caches_fit (sizes_for s) (length (history_after entry_run s start [] chunks)) (length keys) (length values) ≡ true
-      → load_of file keys values ≡ loaded (SessionRead (sizes_for s) (length (history_after entry_run s start [] chunks))) (state_after entry_run s start chunks).key (state_after entry_run s start chunks).value
+      → load_of file keys values ≡ loaded (session_read (sizes_for s) (length (history_after entry_run s start [] chunks))) (state_after entry_run s start chunks).key (state_after entry_run s start chunks).value
   -- so every later state, every later outcome and every later history is that of a recording that is never stopped
   pub states : (later : List Chunk) → state_after entry_run s (resumed s file (length (history_after entry_run s start [] chunks))) later ≡ state_after entry_run s start (chunks ++ later)
   pub outcomes : (later : List Chunk) (r : Chunk)
@@ -61,12 +59,12 @@ ChunksFit (r ∷ rs) = AllFit r.key × AllFit r.value × ChunksFit rs
 
 -- A file that was begun and added to, as often as may be, with the history that was said to be saved. It is what the writer left in the bytes of its answer. A refused append leaves it as it was; a cut, by a full disk or a killed process, leaves what is whole.
 pub data SavedBy (s : Call) : List ℕ → List Position → Type 0 where
-  begun : (buffer left : List ℕ) (m u : ℕ) → begin_of buffer (sizes_for s) ≡ written (Saved m u) left → SavedBy s (take u left) []
+  begun : (buffer left : List ℕ) (m u : ℕ) → begin_of buffer (sizes_for s) ≡ written (saved m u) left → SavedBy s (take u left) []
   added : (buffer left : List ℕ) (used m u : ℕ) (history ps : List Position) → SavedBy s (take used buffer) history → AllFit (key_cache s ps) → AllFit (value_cache s ps)
-      → append_of buffer used (length ps) (key_cache s ps) (value_cache s ps) ≡ written (Saved m u) left
+      → append_of buffer used (length ps) (key_cache s ps) (value_cache s ps) ≡ written (saved m u) left
       → SavedBy s (take u left) (history ++ ps)
   refused : (buffer left : List ℕ) (used count : ℕ) (keys values : List Float) (r : Refusal) (history : List Position) → SavedBy s (take used buffer) history
-      → append_of buffer used count keys values ≡ written (NotSaved r) left
+      → append_of buffer used count keys values ≡ written (Err r) left
       → SavedBy s (take used left) history
   cut : (file : List ℕ) (c : ℕ) (history : List Position) → SavedBy s file history → 14 ≤ c → c ≤ length file → SavedBy s (take c file) (take (whole_in (sizes_for s) c) history)
 
@@ -85,5 +83,5 @@ AppendExtends s history ps =
     → AllFit (key_cache s ps)
     → AllFit (value_cache s ps)
     → FileHolds s (take used buffer) history
-    → append_of buffer used (length ps) (key_cache s ps) (value_cache s ps) ≡ written (Saved m u) left
+    → append_of buffer used (length ps) (key_cache s ps) (value_cache s ps) ≡ written (saved m u) left
     → FileHolds s (take u left) (history ++ ps)

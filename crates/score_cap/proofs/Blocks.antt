@@ -12,7 +12,7 @@ use Rattle.float_laws.proofs.MinusZero.{minus_zero_sub}
 use Rattle.tensor_laws.specs.Layout.{tabulate}
 use Rattle.tensor_laws.proofs.Tabulate.{tabulate_ext, map_elements}
 use Rattle.exponential.specs.ExpNeg.{exp_neg_of, value_or_zero, exp_neg_row_of}
-use Rattle.exponential.proofs.Laws.{length_row, get_or_row}
+use Rattle.exponential.proofs.Laws.{get_or_row}
 use Rattle.softmax.specs.Lists.{element_of, hidden, is_hidden}
 use Rattle.softmax.specs.Cap.{signed_by, twice_of, ratio_of, capped_or_hidden, capped_row_of}
 
@@ -30,14 +30,8 @@ terms_of xs = map (λ x. neg (twice_of x)) xs
 abbrev pub exponentials_of : Float → List Float → List Float
 exponentials_of c row = exp_neg_row_of minus_zero (terms_of (quotients_of c row))
 
-pub length_quotients : (c : Float) (row : List Float) → length (quotients_of c row) ≡ length row
-length_quotients c row = length-map row (λ s. div binary32 s c)
-
-pub length_terms : (c : Float) (row : List Float) → length (terms_of (quotients_of c row)) ≡ length row
-length_terms c row = length-map (quotients_of c row) (λ x. neg (twice_of x)) ∙ length_quotients c row
-
-pub length_exponentials : (c : Float) (row : List Float) → length (exponentials_of c row) ≡ length row
-length_exponentials c row = length_row minus_zero (terms_of (quotients_of c row)) ∙ length_terms c row
+length_terms : (c : Float) (row : List Float) → length (terms_of (quotients_of c row)) ≡ length row
+length_terms c row = length-map (quotients_of c row) (λ x. neg (twice_of x)) ∙ length-map row (λ s. div binary32 s c)
 
 quotient_at : (c : Float) (row : List Float) (j : ℕ) → element_of (quotients_of c row) j ≡ div binary32 (element_of row j) c
 unfolding div

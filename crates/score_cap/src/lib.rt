@@ -9,34 +9,28 @@ fn cap_block(row: &mut [f32], c: f32)
     requires { length row.old ≤ 64 }
     ensures { row.new ≡ capped_row_of c row.old }
 {
-    let mut xs = [0.0; 64];
-    let mut terms = [0.0; 64];
-    let n = row.len();
-    score_cap_steps::quotients(row, c, &mut xs[..n]);
-    score_cap_steps::minus_twices(&xs[..n], &mut terms[..n]);
-    exponential_row::exp_neg_row(&mut terms[..n], -0.0);
-    score_cap_steps::cap_elements(row, c, &xs[..n], &terms[..n]);
-}
-
-fn cap_blocks(row: &mut [f32], c: f32)
-    ensures { row.new ≡ capped_row_of c row.old }
-{
-    let n = row.len();
-    let mut done = 0;
-    while 64 <= n - done {
-        let e = done + 64;
-        cap_block(&mut row[done..e], c);
-        done = e;
-    }
-    cap_block(&mut row[done..], c);
+    let mut quotients = [0.0; 64];
+    let mut exponentials = [0.0; 64];
+    let xs = &mut quotients[..row.len()];
+    let terms = &mut exponentials[..row.len()];
+    score_cap_steps::quotients(row, c, xs);
+    score_cap_steps::minus_twices(xs, terms);
+    exponential_row::exp_neg_row(terms, -0.0);
+    score_cap_steps::cap_elements(row, c, xs, terms);
 }
 
 // A row of scores under the cap, where 0 of either sign is none.
+#[tactic(auto, using(score_cap_steps::proofs::Marks::zero_is), unfolding(softmax::specs::Cap::capped_row_where))]
 pub fn cap_row(row: &mut [f32], c: f32)
     ensures { row.new ≡ capped_row_where c row.old }
 {
     if c == 0.0 {
         return;
     }
-    cap_blocks(row, c);
+    let n = row.len();
+    // By number: after a loop over `chunks_mut(64)` a proof knows the row's length, and no element.
+    for block in 0..n / 64 {
+        cap_block(&mut row[64 * block..64 * block + 64], c);
+    }
+    cap_block(&mut row[n - n % 64..], c);
 }

@@ -11,11 +11,9 @@ fn join_lanes(lanes: &[f32], scale: f32, out: &mut [f32])
     requires { length out.old * 4 ≤ length lanes.now }
     ensures { out.new ≡ tabulate (length out.old) (joined_at lanes.now scale) }
 {
-    let mut j = 0;
-    while j < out.len() {
+    for (j, score) in out.iter_mut().enumerate() {
         let i = j * 4;
-        out[j] = ((lanes[i] + lanes[i + 1]) + (lanes[i + 2] + lanes[i + 3])) * scale;
-        j += 1;
+        *score = ((lanes[i] + lanes[i + 1]) + (lanes[i + 2] + lanes[i + 3])) * scale;
     }
 }
 
@@ -42,12 +40,10 @@ fn score_few(q: &[f32], keys: &[f32], stride: usize, scale: f32, out: &mut [f32]
     requires { (j : ℕ) → j < length out.old → j * stride + length q.now ≤ length keys.now }
     ensures { out.new ≡ score_rows_of q.now keys.now stride scale (length out.old) }
 {
-    let mut j = 0;
-    while j < out.len() {
+    for (j, score) in out.iter_mut().enumerate() {
         let at = j * stride;
         let e = at + q.len();
-        out[j] = lanes_dot::dot(q, &keys[at..e]) * scale;
-        j += 1;
+        *score = lanes_dot::dot(q, &keys[at..e]) * scale;
     }
 }
 
@@ -69,6 +65,7 @@ pub fn score_rows(q: &[f32], keys: &[f32], stride: usize, scale: f32, out: &mut 
     let mut lanes = [0.0; 64];
     let n = out.len();
     let mut j = 0;
+    // Kept: `step_by(16)` took 1 to 3 % more instructions in each form that was tried, and of what `chunks_mut` lends nothing is known afterwards.
     while 4 <= n - j {
         let at = j * stride;
         let m = block_size(n - j);

@@ -15,7 +15,6 @@ use Rattle.softmax.proofs.Structure.{agree_output, agree_score}
 use Rattle.call.specs.declared.Call.{Call}
 use Rattle.call.specs.declared.Form.{Form}
 use Rattle.call.specs.declared.Form.TheVariants.{Plain, Cached}
-use Rattle.call.specs.declared.Answer.TheVariants.{Done}
 use Rattle.call.specs.Tensors.{Inputs}
 use Rattle.call.specs.Contents.{live_in}
 use Rattle.attention.specs.Elements.{key_head_of, query_at, key_at, value_at}
@@ -30,6 +29,7 @@ use Rattle.sequence.specs.Chunks.{Chunk, length_of, chunk_call, chunk_inputs, po
 use Rattle.sequence.proofs.Places.{state_of, length_with_chunk}
 use Rattle.sequence.proofs.Plain.{PlainGood}
 use Rattle.sequence.proofs.Lays.{Lays, plain_lays, chunk_lays}
+use Rattle.call.specs.Answers.{done_of}
 
 -- the output of position m's row over the positions 0 to m, all of them seen
 abbrev row_over : Call → List Position → (b h m k : ℕ) → Float
@@ -60,11 +60,11 @@ row_output s form past qlen klen at live x ps reached most lays b h i k count hb
 
 module _ (s : Call) (history : List Position) (r : Chunk) where
   -- an accepted chunk answers done, the number of positions of the history and it, and no fully masked row
-  pub chunk_answer : (accepted_of (chunk_call s (length history) r) (chunk_inputs (state_of s history) r)).answer ≡ Done (length history + length_of r) 0
+  pub chunk_answer : (accepted_of (chunk_call s (length history) r) (chunk_inputs (state_of s history) r)).answer ≡ done_of (length history + length_of r) 0
   chunk_answer =
       let c = chunk_call s (length history) r in
       let x = chunk_inputs (state_of s history) r in
-      accepted_answer c x ∙ ap (Done (length history + length_of r)) (causal_none_masked c x refl (length history) (λ b i j hb. refl) (λ b hb. (omega arith, omega arith)))
+      accepted_answer c x ∙ ap (done_of (length history + length_of r)) (causal_none_masked c x refl (length history) (λ b i j hb. refl) (λ b hb. (omega arith, omega arith)))
 
   -- its presents are the caches of the history and its positions
   pub chunk_present_keys : (accepted_of (chunk_call s (length history) r) (chunk_inputs (state_of s history) r)).tensors.present_key ≡ key_cache s (history ++ positions_of s r)

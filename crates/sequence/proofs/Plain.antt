@@ -1,4 +1,5 @@
 -- The plain call over positions is accepted exactly where the dimensions and the settings are and no position is at fault. Assumes nothing.
+use Rattle.std.specs.Prelude.{Ok, Err}
 use mathlib.Core.Path.{◌≡◌, refl, ap, ◌∙◌}
 use mathlib.Core.List.{List}
 use mathlib.Core.Bool.{Bool, true, ◌&&◌}
@@ -11,8 +12,7 @@ use Rattle.exponential.specs.ExpNeg.{plus_zero}
 use Rattle.call.specs.declared.Call.{Call}
 use Rattle.call.specs.declared.Form.{Form}
 use Rattle.call.specs.declared.Form.TheVariants.{Plain}
-use Rattle.call.specs.declared.Verdict.{Verdict}
-use Rattle.call.specs.declared.Verdict.TheVariants.{Accepted, Refused}
+use Rattle.call.specs.Refusals.{Verdict}
 use Rattle.call.specs.Limits.{past_allowed, limits_hold, groups_hold, settings_hold, total_of}
 use Rattle.call.specs.Lengths.{inputs_fit, outputs_fit, output_length, present_key_length, present_value_length, scores_length}
 use Rattle.call.specs.Refusals.{verdict_of}
@@ -97,9 +97,9 @@ pub record PlainGood (s : Call) (ps : List Position) : Type 0 where
   pub settings : settings_hold (plain_call s ps) ≡ true
   pub good : AllGood s ps
 
-accepted_true : (v : Verdict) → is_accepted v ≡ true → v ≡ Accepted
-accepted_true Accepted e = refl
-accepted_true (Refused a) e = absurd (let z : ◌≡◌ {A = ℕ} 0 1 = cc in omega arith)
+accepted_true : (v : Verdict) → is_accepted v ≡ true → v ≡ Ok tt
+accepted_true (Ok u) e = refl
+accepted_true (Err a) e = absurd (let z : ◌≡◌ {A = ℕ} 0 1 = cc in omega arith)
 
 module _ (s : Call) (ps : List Position) where
   query_length_lem : length (plain_inputs s ps).query ≡ s.batches * s.qheads * length ps * s.size

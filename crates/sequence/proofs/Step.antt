@@ -1,4 +1,5 @@
 -- One chunk on the caches of a history: no refusal applies to it exactly when it is entered, and what it then leaves. Assumes nothing.
+use Rattle.std.specs.Prelude.{Ok, Err}
 use mathlib.Core.Path.{◌≡◌, refl, sym, ap, ◌∙◌, subst}
 use mathlib.Core.List.{List, ◌++◌}
 use mathlib.Core.Bool.{Bool, true, false, ◌&&◌}
@@ -11,8 +12,7 @@ use Rattle.tensor_laws.proofs.Tabulate.{none_long}
 use Rattle.tensor_laws.proofs.Cells.{length_tensor_of, get_or_tensor_of}
 use Rattle.call.specs.declared.Call.{Call}
 use Rattle.call.specs.declared.Form.TheVariants.{Cached}
-use Rattle.call.specs.declared.Verdict.{Verdict}
-use Rattle.call.specs.declared.Verdict.TheVariants.{Accepted, Refused}
+use Rattle.call.specs.Refusals.{Verdict}
 use Rattle.call.specs.Profile.{Entry, general, step, takes}
 use Rattle.call.specs.Tensors.{Inputs}
 use Rattle.call.specs.Lengths.{inputs_fit, outputs_fit}
@@ -164,11 +164,11 @@ module _ (s : Call) (history : List Position) (r : Chunk) where
       x = chunk_inputs (state_of s history) r
 
       by_verdict : takes r.entry c ≡ true → (v : Verdict) → verdict_of c x (lent_of r) ≡ v → (is_done (attention_of c x (lent_of r)).answer ≡ false) × ((attention_of c x (lent_of r)).tensors ≡ lent_of r)
-      by_verdict taken Accepted p =
+      by_verdict taken (Ok u) p =
           let a = verdict→accepts c x (lent_of r) p in
           let t : entered s (state_of s history) history r ≡ true = fits→entered taken a.inputs a.outputs (accepts→plain good a) in
           absurd (let z : ◌≡◌ {A = ℕ} 0 1 = cc in omega arith)
-      by_verdict taken (Refused a) p =
+      by_verdict taken (Err a) p =
           let o = refused_outcome c x (lent_of r) a p in
           (ap (λ o. is_done o.answer) o, ap (λ o. o.tensors) o)
 

@@ -6,7 +6,6 @@ use Prim.Native.Nat.{ℕ, ◌+◌, ◌≤◌, ◌<◌}
 use native.Mathlib.Omega.{arith}
 use lib.ListN.{length, length-append}
 use Rattle.call.specs.declared.Call.{Call}
-use Rattle.call.specs.declared.Answer.TheVariants.{Done}
 use Rattle.attention.specs.Elements.{cell_at}
 use Rattle.attention.specs.Formula.{attention_output}
 use Rattle.attention.proofs.Outcome.{accepted_output}
@@ -18,6 +17,7 @@ use Rattle.sequence.proofs.Places.{state_of, AllGood, length_with_chunk, positio
 use Rattle.sequence.proofs.Step.{entered→plain, entered_outcome, other_outcome}
 use Rattle.sequence.proofs.Outputs.{chunk_answer, chunk_row}
 use Rattle.sequence.proofs.Kept.{Kept, next, history_entered, kept_start, kept_after, history_extends, history_append}
+use Rattle.call.specs.Answers.{done_of}
 
 module _ (s : Call) (history : List Position) (r : Chunk) where
   -- a chunk is accepted exactly when it is entered
@@ -28,11 +28,11 @@ module _ (s : Call) (history : List Position) (r : Chunk) where
       go true e = ap (λ o. is_done o.answer) (entered_outcome s history r e) ∙ ap is_done (chunk_answer s history r) ∙ sym e
       go false e = (other_outcome s history r good e).0 ∙ sym e
 
-  answer_entered : entered s (state_of s history) history r ≡ true → (chunk_outcome entry_run s (state_of s history) r).answer ≡ Done (length (history_next s (state_of s history) history r)) 0
+  answer_entered : entered s (state_of s history) history r ≡ true → (chunk_outcome entry_run s (state_of s history) r).answer ≡ done_of (length (history_next s (state_of s history) history r)) 0
   answer_entered e =
       ap (λ o. o.answer) (entered_outcome s history r e)
       ∙ chunk_answer s history r
-      ∙ ap (λ n. Done n 0) (sym (ap length (history_entered s (state_of s history) history r e) ∙ length_with_chunk s r history))
+      ∙ ap (λ n. done_of n 0) (sym (ap length (history_entered s (state_of s history) history r e) ∙ length_with_chunk s r history))
 
   row_entered : (whole later : List Position) → whole ≡ history_next s (state_of s history) history r ++ later → entered s (state_of s history) history r ≡ true
       → (b h i k : ℕ) → b < s.batches → h < s.qheads → i < length_of r → k < s.vsize

@@ -1,13 +1,11 @@
 -- Chunks (runs) of a recording: causal cached calls without a mask, each through one of the two entries and on the caches that the last accepted one left; and the history (the book) of the positions that were entered. Definitions only.
-use Rattle.std.specs.Prelude.{List, [], ◌∷◌, ◌++◌, ℕ, suc, Bool, true, false, ◌&&◌, cond, ℤ, Float, length}
+use Rattle.std.specs.Prelude.{List, [], ◌∷◌, ◌++◌, ℕ, suc, Bool, true, false, ◌&&◌, cond, ℤ, Float, length, Ok, Err}
 use Rattle.tensor_laws.specs.Layout.{tabulate}
 use Rattle.call.specs.declared.Call.{Call}
 use Rattle.call.specs.declared.Form.TheVariants.{Cached}
-use Rattle.call.specs.declared.Answer.{Answer}
-use Rattle.call.specs.declared.Answer.TheVariants.{Done, NotDone}
+use Rattle.call.specs.Answers.{Answer}
 use Rattle.call.specs.Answers.{report_of}
-use Rattle.call.specs.declared.Verdict.{Verdict}
-use Rattle.call.specs.declared.Verdict.TheVariants.{Accepted, Refused}
+use Rattle.call.specs.Refusals.{Verdict}
 use Rattle.call.specs.Profile.{Entry, general, step, takes}
 use Rattle.call.specs.Tensors.{Inputs, Outputs, outputs_of}
 use Rattle.call.specs.Lengths.{inputs_fit, outputs_fit}
@@ -89,8 +87,8 @@ chunk_outcome run s st r = run r.entry (chunk_call s st.past r) (chunk_inputs st
 
 -- the call was accepted
 abbrev pub is_done : Answer → Bool
-is_done (Done total masked) = true
-is_done (NotDone r) = false
+is_done (Ok d) = true
+is_done (Err r) = false
 
 -- the state after an answer: T and the presents where it is done, and the state before otherwise
 abbrev pub next_state : Answer → State → Outputs → State
@@ -115,8 +113,8 @@ positions_of s r =
     })
 
 abbrev pub is_accepted : Verdict → Bool
-is_accepted Accepted = true
-is_accepted (Refused a) = false
+is_accepted (Ok u) = true
+is_accepted (Err a) = false
 
 -- no refusal applies to the one plain call over the positions, with tensors of the right lengths
 unfoldable pub plain_accepted : Call → List Position → Bool

@@ -1,18 +1,18 @@
 -- Demand 3, as one statement over every sequence of chunks. Definitions only.
 use Rattle.std.specs.Prelude.{◌≡◌, List, [], ◌∷◌, ◌++◌, ℕ, ◌+◌, ◌≤◌, ◌<◌, true, false, length}
 use Rattle.call.specs.declared.Call.{Call}
-use Rattle.call.specs.declared.Answer.TheVariants.{Done}
 use Rattle.attention.specs.Elements.{cell_at}
 use Rattle.attention.specs.Formula.{attention_output}
 use Rattle.sequence.specs.Positions.{Position, plain_call, plain_inputs, key_cache, value_cache}
 use Rattle.sequence.specs.Chunks.{Run, Chunk, State, start, length_of, lent_of, chunk_outcome, is_done, state_after, plain_accepted, entered, history_next, history_after}
+use Rattle.call.specs.Answers.{done_of}
 
 -- What holds of one chunk of a sequence, with the state and the history before it, and the whole history after the sequence.
 pub record ChunkHolds (run : Run) (s : Call) (st : State) (history : List Position) (r : Chunk) (whole : List Position) : Type 0 where
   -- it was accepted exactly when it was entered
   pub accepted : is_done (chunk_outcome run s st r).answer ≡ entered s st history r
   -- it then answered done, the history's length after it as T, and 0 fully masked rows
-  pub answer : entered s st history r ≡ true → (chunk_outcome run s st r).answer ≡ Done (length (history_next s st history r)) 0
+  pub answer : entered s st history r ≡ true → (chunk_outcome run s st r).answer ≡ done_of (length (history_next s st history r)) 0
   -- any other chunk left every lent tensor as before
   pub refused : entered s st history r ≡ false → (chunk_outcome run s st r).tensors ≡ lent_of r
   -- output row (b, h, i) of an accepted chunk has the bits of row (b, h, P + i) of the plain call over the whole history, by step 5

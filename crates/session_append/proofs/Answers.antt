@@ -1,5 +1,6 @@
 -- What adding positions answers, test by test in the definition's order, and what it leaves in the buffer. Assumes nothing.
-use mathlib.Core.Path.{◌≡◌, refl, sym, ap, ◌∙◌}
+use Rattle.std.specs.Prelude.{Some, None, Err}
+use mathlib.Core.Path.{◌≡◌, refl, ap, ◌∙◌}
 use mathlib.Core.Bool.{true, false}
 use mathlib.Core.List.{List}
 use Prim.Native.Nat.{ℕ, ◌+◌, ◌-◌, ◌*◌, ◌≤◌, ◌<◌}
@@ -11,24 +12,19 @@ use lib.Ieee.{Float}
 use lib.ListN.{length, take}
 use Rattle.bool_laws.proofs.Tests.{both_true}
 use Rattle.tensor_laws.proofs.Parts.{with_part}
-use Rattle.call.specs.Contents.{at}
-use Rattle.contents.specs.Faults.{index_or}
 use Rattle.records.specs.Records.{written_at}
 use Rattle.records.proofs.Fronts.{written_part}
 use Rattle.session_file.specs.declared.Sizes.{Sizes}
 use Rattle.call.specs.declared.Refusal.{Refusal}
 use Rattle.call.specs.declared.Refusal.TheVariants.{Limits, InputLength, Position, Room}
-use Rattle.session_file.specs.declared.Reading.{Reading}
-use Rattle.session_file.specs.declared.Reading.TheVariants.{SessionRead, NotRead}
-use Rattle.session_file.specs.declared.Saving.TheVariants.{Saved}
+use Rattle.session_file.specs.Reader.{Reading, session_read}
 use Rattle.session_file.specs.Below.{least_from, joined}
 use Rattle.session_file.specs.Sizes.{sizes_hold, rows_of, record_length, record_start}
 use Rattle.session_file.specs.Form.{session_of, position_bytes}
 use Rattle.session_file.specs.Reader.{caches_fit, read_of}
-use Rattle.session_file.specs.Writer.{Written, written, refused_with, rows_fault, written_behind, appended_to, append_of}
+use Rattle.session_file.specs.Writer.{saved, Written, written, refused_with, rows_fault, written_behind, appended_to, append_of}
 use Rattle.session_file.proofs.Joined.{length_joined}
 use Rattle.session_writer.specs.Fits.{CachesFit}
-use Rattle.session_writer.proofs.Counts.{index_found, index_none}
 use Rattle.session_writer.proofs.Rows.{length_position_bytes}
 
 -- ---- what the test of lengths says
@@ -52,51 +48,46 @@ new_length z n count from to e f = let m = add-mul n count (record_length z) in 
 -- ---- the answers
 
 module _ (z : Sizes) (n : ℕ) (buffer : List ℕ) (count : ℕ) (keys values : List Float) where
-  pub too_many : 2048 < n + count → refused_with Limits buffer ≡ appended_to (SessionRead z n) buffer count keys values
+  pub too_many : 2048 < n + count → refused_with Limits buffer ≡ appended_to (session_read z n) buffer count keys values
   unfolding appended_to
   too_many h = rw (lt-leb (n + count) 2048 h)
 
   module _ (h : n + count ≤ 2048) where
-    pub wrong_lengths : caches_fit z count (length keys) (length values) ≡ false → refused_with InputLength buffer ≡ appended_to (SessionRead z n) buffer count keys values
+    pub wrong_lengths : caches_fit z count (length keys) (length values) ≡ false → refused_with InputLength buffer ≡ appended_to (session_read z n) buffer count keys values
     unfolding appended_to
     wrong_lengths e = rw (le-leb (n + count) 2048 h, e)
 
     module _ (e : caches_fit z count (length keys) (length values) ≡ true) where
-      at_fault : (p : ℕ) → least_from (rows_fault (session_of z count keys values)) count 0 ≡ at p → refused_with (Position (n + p)) buffer ≡ appended_to (SessionRead z n) buffer count keys values
-      unfolding appended_to written_behind
-      at_fault p f = rw (le-leb (n + count) 2048 h, e, f)
-
       -- a fault was found at p
-      pub wrong_element : (p : ℕ) → p ≡ index_or (least_from (rows_fault (session_of z count keys values)) count 0) count → p < count → refused_with (Position (n + p)) buffer ≡ appended_to (SessionRead z n) buffer count keys values
-      wrong_element p f l =
-          let found = least_from (rows_fault (session_of z count keys values)) count 0 in
-          at_fault p (index_found found count (omega arith) ∙ ap at (sym f))
+      pub wrong_element : (p : ℕ) → least_from (rows_fault (session_of z count keys values)) count 0 ≡ Some p → refused_with (Position (n + p)) buffer ≡ appended_to (session_read z n) buffer count keys values
+      unfolding appended_to written_behind
+      wrong_element p f = rw (le-leb (n + count) 2048 h, e, f)
 
       -- none was found
-      module _ (f : count ≤ index_or (least_from (rows_fault (session_of z count keys values)) count 0) count) where
-        pub no_room : length buffer < record_start z (n + count) → refused_with Room buffer ≡ appended_to (SessionRead z n) buffer count keys values
+      module _ (f : least_from (rows_fault (session_of z count keys values)) count 0 ≡ None) where
+        pub no_room : length buffer < record_start z (n + count) → refused_with Room buffer ≡ appended_to (session_read z n) buffer count keys values
         unfolding appended_to written_behind
-        no_room l = rw (le-leb (n + count) 2048 h, e, index_none (rows_fault (session_of z count keys values)) count f, lt-leb (record_start z (n + count)) (length buffer) l)
+        no_room l = rw (le-leb (n + count) 2048 h, e, f, lt-leb (record_start z (n + count)) (length buffer) l)
 
         added : record_start z (n + count) ≤ length buffer
-            → written (Saved (n + count) (record_start z (n + count))) (written_at buffer (record_start z n) (joined (position_bytes (session_of z count keys values)) count))
-            ≡ appended_to (SessionRead z n) buffer count keys values
+            → written (saved (n + count) (record_start z (n + count))) (written_at buffer (record_start z n) (joined (position_bytes (session_of z count keys values)) count))
+            ≡ appended_to (session_read z n) buffer count keys values
         unfolding appended_to written_behind
-        added l = rw (le-leb (n + count) 2048 h, e, index_none (rows_fault (session_of z count keys values)) count f, le-leb (record_start z (n + count)) (length buffer) l)
+        added l = rw (le-leb (n + count) 2048 h, e, f, le-leb (record_start z (n + count)) (length buffer) l)
 
         -- the part of the buffer that was lent comes back with the new records
-        pub saved : CachesFit z count (length keys) (length values) → (from to : ℕ) (w : List ℕ) → from ≡ record_start z n → to ≡ record_start z (n + count) → to ≤ length buffer
+        pub all_saved : CachesFit z count (length keys) (length values) → (from to : ℕ) (w : List ℕ) → from ≡ record_start z n → to ≡ record_start z (n + count) → to ≤ length buffer
             → w ≡ joined (position_bytes (session_of z count keys values)) count
-            → written (Saved (n + count) to) (with_part from (to - from) buffer w) ≡ appended_to (SessionRead z n) buffer count keys values
-        saved fit from to w a b l d =
+            → written (saved (n + count) to) (with_part from (to - from) buffer w) ≡ appended_to (session_read z n) buffer count keys values
+        all_saved fit from to w a b l d =
             let records = joined (position_bytes (session_of z count keys values)) count in
             let long : length w ≡ to - from =
             ap length d
             ∙ length_joined (position_bytes (session_of z count keys values)) (record_length z) count (λ p k. length_position_bytes z count keys values fit p k)
             ∙ omega (arith, (new_length z n count from to a b).1)
             in
-            ap (λ (s : List ℕ). written (Saved (n + count) to) s) (written_part from (to - from) buffer w long)
-            ∙ (λ j. written (Saved (n + count) (b j)) (written_at buffer (a j) (d j)))
+            ap (λ (s : List ℕ). written (saved (n + count) to) s) (written_part from (to - from) buffer w long)
+            ∙ (λ j. written (saved (n + count) (b j)) (written_at buffer (a j) (d j)))
             ∙ added (rw b at l)
 
 -- ---- the file in the buffer
@@ -111,6 +102,6 @@ module _ (buffer : List ℕ) (used count : ℕ) (keys values : List Float) where
   unfolding append_of
   read_first reading w h e f = rw (le-leb used (length buffer) h, e) f
 
-  pub file_refused : (r : Refusal) → used ≤ length buffer → read_of (take used buffer) ≡ NotRead r → refused_with r buffer ≡ append_of buffer used count keys values
+  pub file_refused : (r : Refusal) → used ≤ length buffer → read_of (take used buffer) ≡ Err r → refused_with r buffer ≡ append_of buffer used count keys values
   unfolding appended_to
-  file_refused r h e = read_first (NotRead r) (refused_with r buffer) h e refl
+  file_refused r h e = read_first (Err r) (refused_with r buffer) h e refl

@@ -3,11 +3,11 @@
 
 ghost use Rattle.std.specs.Prelude.{◌≡◌, true, ◌≤◌};
 ghost use Rattle.session_file.specs.Sizes.{sizes_hold};
-ghost use Rattle.session_file.specs.declared.Reading.TheVariants.{SessionRead};
+ghost use Rattle.session_file.specs.Reader.{session_read};
 ghost use Rattle.session_file.specs.Writer.{written, appended_to, append_of};
 
 use call::Refusal;
-use session_file::{Reading, Saving, Sizes};
+use session_file::{Saved, Sizes};
 
 // Positions behind the last whole record of a file that has n whole positions of those sizes.
 fn append_to(
@@ -17,46 +17,46 @@ fn append_to(
     count: usize,
     keys: &[f32],
     values: &[f32],
-) -> Saving
+) -> Result<Saved, Refusal>
     requires sizes_value { sizes_hold sizes ≡ true }
     requires n_bound { n ≤ 2048 }
-    ensures { written result buffer.new ≡ appended_to (SessionRead sizes n) buffer.old count keys.now values.now }
+    ensures { written result buffer.new ≡ appended_to (session_read sizes n) buffer.old count keys.now values.now }
 {
     if 2048 - n < count {
-        return Saving::NotSaved(Refusal::Limits);
+        return Err(Refusal::Limits);
     }
     if !session_sizes::caches_fit(sizes, count, keys.len(), values.len()) {
-        return Saving::NotSaved(Refusal::InputLength);
+        return Err(Refusal::InputLength);
     }
-    let fault = session_rows::first_fault(keys, values, sizes, count);
-    if fault < count {
-        return Saving::NotSaved(Refusal::Position {
-            position: n + fault,
-        });
+    if let Some(fault) = session_rows::first_fault(keys, values, sizes, count) {
+        let position = n + fault;
+        return Err(Refusal::Position { position });
     }
     let from = session_sizes::record_start(sizes, n);
     let to = session_sizes::record_start(sizes, n + count);
     if buffer.len() < to {
-        return Saving::NotSaved(Refusal::Room);
+        return Err(Refusal::Room);
     }
     session_positions::write_positions(keys, values, sizes, count, &mut buffer[from..to]);
-    Saving::Saved {
+    Ok(Saved {
         positions: n + count,
         used: to,
-    }
+    })
 }
 
 // Adds `count` positions behind the last whole record of the file that is the first `used` bytes of the buffer.
-pub fn append(buffer: &mut [u8], used: usize, count: usize, keys: &[f32], values: &[f32]) -> Saving
+pub fn append(
+    buffer: &mut [u8],
+    used: usize,
+    count: usize,
+    keys: &[f32],
+    values: &[f32],
+) -> Result<Saved, Refusal>
     ensures { written result buffer.new ≡ append_of buffer.old used count keys.now values.now }
 {
     if buffer.len() < used {
-        return Saving::NotSaved(Refusal::Room);
+        return Err(Refusal::Room);
     }
-    match session_inspect::inspect(&buffer[..used]) {
-        Reading::NotRead(refusal) => Saving::NotSaved(refusal),
-        Reading::SessionRead { sizes, positions } => {
-            append_to(buffer, sizes, positions, count, keys, values)
-        }
-    }
+    let read = session_inspect::inspect(&buffer[..used])?;
+    append_to(buffer, read.sizes, read.positions, count, keys, values)
 }

@@ -8,7 +8,7 @@ ghost use Rattle.session_file.specs.Form.{sizes_bytes};
 ghost use Rattle.session_file.specs.Writer.{written, begin_of};
 
 use call::Refusal;
-use session_file::{Saving, Sizes};
+use session_file::{Saved, Sizes};
 
 fn write_sizes(buffer: &mut [u8], sizes: Sizes)
     requires sizes_value { sizes_hold sizes ≡ true }
@@ -23,18 +23,18 @@ fn write_sizes(buffer: &mut [u8], sizes: Sizes)
 }
 
 // A file of no positions from byte 0 on. Nothing in the buffer is looked at.
-pub fn begin(buffer: &mut [u8], sizes: Sizes) -> Saving
+pub fn begin(buffer: &mut [u8], sizes: Sizes) -> Result<Saved, Refusal>
     ensures { written result buffer.new ≡ begin_of buffer.old sizes }
 {
     if session_sizes::sizes_hold(sizes) {
         if 14 <= buffer.len() {
             write_sizes(buffer, sizes);
-            return Saving::Saved {
+            return Ok(Saved {
                 positions: 0,
                 used: 14,
-            };
+            });
         }
-        return Saving::NotSaved(Refusal::Room);
+        return Err(Refusal::Room);
     }
-    Saving::NotSaved(Refusal::Limits)
+    Err(Refusal::Limits)
 }

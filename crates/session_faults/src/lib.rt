@@ -16,9 +16,10 @@ fn pattern_fault(bits: u32) -> u32
     ensures { result ≡ tally (element_fault (of_bits binary32 bits)) }
 {
     if bits % 2147483648 <= 1199570944 {
-        return 0;
+        0
+    } else {
+        1
     }
-    1
 }
 
 // How many elements of a payload are at fault.
@@ -26,14 +27,9 @@ fn payload_faults(payload: &[u8]) -> u32
     requires { length payload.now ≤ 524288 }
     ensures { result ≡ count_where (length payload.now / 4) (payload_fault payload.now 0) }
 {
-    let count = payload.len() / 4;
-    let mut faults = 0;
-    let mut i = 0;
-    while i < count {
-        faults += pattern_fault(records_read::u32_at(payload, i * 4));
-        i += 1;
-    }
-    faults
+    (0..payload.len() / 4)
+        .map(|i| pattern_fault(records_read::u32_at(payload, i * 4)))
+        .sum()
 }
 
 // Whether an element of the whole record of position p is at fault.

@@ -1,4 +1,5 @@
 -- Tests over the numbers below n: where none passes each fails, and the other way; where no least is found each fails. Assumes nothing.
+use Rattle.std.specs.Prelude.{Some, None}
 use mathlib.Core.Path.{◌≡◌, refl, sym, ap, ◌∙◌, subst}
 use mathlib.Core.Bool.{Bool, true, false, cond}
 use Prim.Native.Nat.{ℕ, zero, suc, ◌+◌, ◌≤◌, ◌<◌}
@@ -9,7 +10,6 @@ use borrow.Author.Tests.{ltb-false, le-ltb}
 use Rattle.call.proofs.Search.{no_index}
 use Rattle.bool_laws.proofs.Counts.{count_none, tally_none}
 use Rattle.bool_laws.specs.Counts.{tally, count_where}
-use Rattle.call.specs.Contents.{nothing, at}
 use Rattle.session_file.specs.Below.{any_below, least_from}
 
 module _ (test : ℕ → Bool) where
@@ -36,12 +36,12 @@ module _ (test : ℕ → Bool) where
 -- ---- the least that passes
 
 -- where nothing is found each fails
-pub least_none→each : (test : ℕ → Bool) (n i : ℕ) → least_from test n i ≡ nothing → (k : ℕ) → k < n → test (i + k) ≡ false
+pub least_none→each : (test : ℕ → Bool) (n i : ℕ) → least_from test n i ≡ None → (k : ℕ) → k < n → test (i + k) ≡ false
 unfolding least_from
 least_none→each test zero i e k h = absurd (not-suc-le-zero h)
 least_none→each test (suc n) i e k h = go (test i) refl (least_none→each test n (suc i)) e k h
   where
-    go : (b : Bool) → test i ≡ b → (least_from test n (suc i) ≡ nothing → (j : ℕ) → j < n → test (suc i + j) ≡ false) → cond b (at i) (least_from test n (suc i)) ≡ nothing
+    go : (b : Bool) → test i ≡ b → (least_from test n (suc i) ≡ None → (j : ℕ) → j < n → test (suc i + j) ≡ false) → cond b (Some i) (least_from test n (suc i)) ≡ None
         → (k : ℕ) → k < suc n → test (i + k) ≡ false
     go true t rest f k h = absurd (no_index i f)
     go false t rest f zero h = ap test (add-zero i) ∙ t

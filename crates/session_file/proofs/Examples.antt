@@ -1,4 +1,5 @@
 -- The definitions on the worked example of the form, one position with all sizes 1, key 1 and value 2: its bytes, what a reader makes of them, of every cut and of damaged ones, and what a writer makes of them. By computation. Assumes nothing.
+use Rattle.std.specs.Prelude.{Err}
 use mathlib.Core.Path.{◌≡◌, refl}
 use mathlib.Core.List.{List, [], ◌∷◌, ◌++◌, map}
 use mathlib.Core.Bool.{true, false}
@@ -13,14 +14,12 @@ use Rattle.call.specs.Contents.{element_fault}
 use Rattle.records.specs.Numbers.{f32_bytes, row_bytes, f32_at}
 use Rattle.session_file.specs.declared.Sizes.{Sizes}
 use Rattle.call.specs.declared.Refusal.TheVariants.{Limits, InputLength, Position, Record, Room}
-use Rattle.session_file.specs.declared.Reading.{Reading}
-use Rattle.session_file.specs.declared.Reading.TheVariants.{SessionRead, NotRead}
-use Rattle.session_file.specs.declared.Saving.TheVariants.{Saved, NotSaved}
+use Rattle.session_file.specs.Reader.{Reading, session_read}
 use Rattle.session_file.specs.Below.{least_from, joined}
 use Rattle.session_file.specs.Sizes.{sizes_hold}
 use Rattle.session_file.specs.Form.{Session, session_of, cache_of, pair_bytes, position_bytes, file_of}
 use Rattle.session_file.specs.Reader.{next_of, position_fault, walk_from, read_of, cache_at, session_at}
-use Rattle.session_file.specs.Writer.{Written, refused_with, begin_of, row_fault, rows_fault, written_behind, appended_to, append_of}
+use Rattle.session_file.specs.Writer.{Written, refused_with, begin_of, row_fault, rows_fault, written_behind, appended_to, append_of, saved}
 
 -- all sizes 1
 abbrev ones : Sizes
@@ -53,7 +52,7 @@ session_of_the_example = refl
 -- ---- the reader
 
 -- every cut: 11 at byte 0 without the whole first record, no position without the whole second one
-cuts_of_the_example : map (λ n. read_of (take n (first ++ position))) (tabulate 29 (λ n. n)) ≡ replicate 14 (NotRead (Record 0)) ++ (replicate 14 (SessionRead ones 0) ++ (SessionRead ones 1 ∷ []))
+cuts_of_the_example : map (λ n. read_of (take n (first ++ position))) (tabulate 29 (λ n. n)) ≡ replicate 14 (Err (Record 0)) ++ (replicate 14 (session_read ones 0) ++ (session_read ones 1 ∷ []))
 unfolding read_of sizes_hold walk_from next_of position_fault count_where element_fault f32_at of_bits of_fields odd count_trailing_zeros le lt eq neg tabulate
 cuts_of_the_example = refl
 
@@ -88,19 +87,19 @@ damaged : map read_of (
     ∷ (first ++ (first ++ position_of 8 infinite one_bytes))
     ∷ (first ++ (position_of 8 one_bytes infinite ++ first))
     ∷ [])
-    ≡ (NotRead (Record 0)
-    ∷ NotRead (Record 0)
-    ∷ NotRead Limits
-    ∷ NotRead Limits
-    ∷ NotRead (Record 0)
-    ∷ NotRead (Record 14)
-    ∷ NotRead (Record 14)
-    ∷ NotRead (Record 14)
-    ∷ SessionRead ones 0
-    ∷ NotRead (Position 1)
-    ∷ SessionRead ones 1
-    ∷ NotRead (Record 14)
-    ∷ NotRead (Position 0)
+    ≡ (Err (Record 0)
+    ∷ Err (Record 0)
+    ∷ Err Limits
+    ∷ Err Limits
+    ∷ Err (Record 0)
+    ∷ Err (Record 14)
+    ∷ Err (Record 14)
+    ∷ Err (Record 14)
+    ∷ session_read ones 0
+    ∷ Err (Position 1)
+    ∷ session_read ones 1
+    ∷ Err (Record 14)
+    ∷ Err (Position 0)
     ∷ [])
 unfolding read_of sizes_hold walk_from next_of position_fault count_where element_fault f32_at of_bits of_fields odd count_trailing_zeros le lt eq neg
 damaged = refl
@@ -119,7 +118,7 @@ edges : map reads (
     ∷ (0 ∷ 0 ∷ 128 ∷ 255 ∷ [])
     ∷ (1 ∷ 0 ∷ 192 ∷ 255 ∷ [])
     ∷ [])
-    ≡ (SessionRead ones 1 ∷ SessionRead ones 1 ∷ SessionRead ones 1 ∷ SessionRead ones 1 ∷ NotRead (Position 0) ∷ NotRead (Position 0) ∷ NotRead (Position 0) ∷ NotRead (Position 0) ∷ [])
+    ≡ (session_read ones 1 ∷ session_read ones 1 ∷ session_read ones 1 ∷ session_read ones 1 ∷ Err (Position 0) ∷ Err (Position 0) ∷ Err (Position 0) ∷ Err (Position 0) ∷ [])
 unfolding read_of sizes_hold walk_from next_of position_fault count_where element_fault f32_at of_bits of_fields odd count_trailing_zeros le lt eq neg
 edges = refl
 
@@ -128,7 +127,7 @@ edges = refl
 abbrev most : List ℕ → Reading
 most tail = walk_from ones (replicate (14 + 2048 * 14) 0 ++ tail) 0 2048
 
-at_the_limit : map most (position ∷ take 6 position ∷ first ∷ take 5 position ∷ []) ≡ NotRead Limits ∷ NotRead Limits ∷ NotRead (Record 28686) ∷ SessionRead ones 2048 ∷ []
+at_the_limit : map most (position ∷ take 6 position ∷ first ∷ take 5 position ∷ []) ≡ Err Limits ∷ Err Limits ∷ Err (Record 28686) ∷ session_read ones 2048 ∷ []
 unfolding walk_from next_of
 at_the_limit = refl
 
@@ -137,7 +136,7 @@ at_the_limit = refl
 abbrev spare : List ℕ
 spare = 7 ∷ 7 ∷ []
 
-begun : begin_of (replicate 14 9 ++ spare) ones ≡ record { answer = Saved 0 14; buffer = first ++ spare }
+begun : begin_of (replicate 14 9 ++ spare) ones ≡ record { answer = saved 0 14; buffer = first ++ spare }
 unfolding begin_of sizes_hold
 begun = refl
 
@@ -151,7 +150,7 @@ unfolding begin_of sizes_hold
 limits_first = refl
 
 -- behind a cut tail, which is written over; bytes behind the new end stay
-appended : append_of (first ++ (8 ∷ 0 ∷ 0 ∷ replicate 11 9 ++ spare)) 17 1 (one ∷ []) (two ∷ []) ≡ record { answer = Saved 1 28; buffer = first ++ (position ++ spare) }
+appended : append_of (first ++ (8 ∷ 0 ∷ 0 ∷ replicate 11 9 ++ spare)) 17 1 (one ∷ []) (two ∷ []) ≡ record { answer = saved 1 28; buffer = first ++ (position ++ spare) }
 unfolding append_of appended_to written_behind least_from rows_fault row_fault read_of sizes_hold walk_from next_of position_fault count_where element_fault f32_at of_bits of_fields odd count_trailing_zeros le lt eq neg joined position_bytes pair_bytes row_bytes f32_bytes to_bits size span climb
 appended = refl
 
@@ -168,6 +167,6 @@ order : map (λ (w : Written). w.answer) (
     ∷ adds 28 2 (one ∷ one ∷ []) (one ∷ two ∷ [])
     ∷ adds 20 0 [] []
     ∷ [])
-    ≡ NotSaved Room ∷ NotSaved (Record 0) ∷ NotSaved Limits ∷ NotSaved InputLength ∷ NotSaved (Position 2) ∷ NotSaved Room ∷ Saved 0 14 ∷ []
+    ≡ Err Room ∷ Err (Record 0) ∷ Err Limits ∷ Err InputLength ∷ Err (Position 2) ∷ Err Room ∷ saved 0 14 ∷ []
 unfolding append_of appended_to written_behind least_from rows_fault row_fault read_of sizes_hold walk_from next_of position_fault count_where element_fault f32_at of_bits of_fields odd count_trailing_zeros le lt eq neg
 order = refl

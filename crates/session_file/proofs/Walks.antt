@@ -1,4 +1,5 @@
 -- What a reading says of the file: its first record, its sizes, and that the positions it counts are whole and without fault. Assumes nothing.
+use Rattle.std.specs.Prelude.{Ok, Err}
 use mathlib.Core.Path.{◌≡◌, refl, sym, ap, ◌∙◌, subst}
 use mathlib.Core.Logic.{◌⊎◌, inl, inr}
 use mathlib.Core.Bool.{Bool, true, false, cond, true≢false}
@@ -17,8 +18,7 @@ use Rattle.session_file.specs.declared.Next.{Next}
 use Rattle.session_file.specs.declared.Next.TheVariants.{Ended, Wrong, Cut, Whole}
 use Rattle.call.specs.declared.Refusal.{Refusal}
 use Rattle.call.specs.declared.Refusal.TheVariants.{Limits, Position, Record}
-use Rattle.session_file.specs.declared.Reading.{Reading}
-use Rattle.session_file.specs.declared.Reading.TheVariants.{SessionRead, NotRead}
+use Rattle.session_file.specs.Reader.{Reading, session_read}
 use Rattle.session_file.specs.Sizes.{sizes_hold, most_positions, payload_length, record_length, record_start}
 use Rattle.session_file.specs.Reader.{next_of, position_fault, at_most, onward, walk_from, sizes_at, first_whole, read_of}
 
@@ -59,16 +59,16 @@ whole→record z file p e =
 -- ---- the walk
 
 abbrev is_session : Reading → Bool
-is_session (SessionRead z n) = true
-is_session (NotRead r) = false
+is_session (Ok s) = true
+is_session (Err r) = false
 
 abbrev sizes_in : Sizes → Reading → Sizes
-sizes_in z (SessionRead y n) = y
-sizes_in z (NotRead r) = z
+sizes_in z (Ok s) = s.sizes
+sizes_in z (Err r) = z
 
 abbrev positions_in : Reading → ℕ
-positions_in (SessionRead z n) = n
-positions_in (NotRead r) = 0
+positions_in (Ok s) = s.positions
+positions_in (Err r) = 0
 
 -- the walk from position p on stops at n: the positions between are whole and without fault
 record Walked (z : Sizes) (file : List ℕ) (more p : ℕ) (y : Sizes) (n : ℕ) : Type 0 where
@@ -78,7 +78,7 @@ record Walked (z : Sizes) (file : List ℕ) (more p : ℕ) (y : Sizes) (n : ℕ)
   each : (q : ℕ) → p ≤ q → q < n → (next_of z file q ≡ Whole) × (position_fault z file q ≡ false)
   end : (next_of z file n ≡ Ended) ⊎ ((next_of z file n ≡ Cut) × (n < p + more))
 
-stopped : (z : Sizes) (file : List ℕ) (more p : ℕ) (y : Sizes) (n : ℕ) → (next_of z file p ≡ Ended) ⊎ ((next_of z file p ≡ Cut) × (p < p + more)) → SessionRead z p ≡ SessionRead y n → Walked z file more p y n
+stopped : (z : Sizes) (file : List ℕ) (more p : ℕ) (y : Sizes) (n : ℕ) → (next_of z file p ≡ Ended) ⊎ ((next_of z file p ≡ Cut) × (p < p + more)) → session_read z p ≡ session_read y n → Walked z file more p y n
 stopped z file more p y n s e =
     let m : p ≡ n = ap positions_in e in
     record {
@@ -89,17 +89,17 @@ stopped z file more p y n s e =
       end = subst (λ (i : ℕ). (next_of z file i ≡ Ended) ⊎ ((next_of z file i ≡ Cut) × (i < p + more))) m s;
     }
 
-not_session : (r : Reading) (y : Sizes) (n : ℕ) → is_session r ≡ false → r ≡ SessionRead y n → ⊥
+not_session : (r : Reading) (y : Sizes) (n : ℕ) → is_session r ≡ false → r ≡ session_read y n → ⊥
 not_session r y n f e = true≢false (sym (ap is_session e) ∙ f)
 
-at_most→walked : (z : Sizes) (file : List ℕ) (p : ℕ) (y : Sizes) (n : ℕ) (k : Next) → next_of z file p ≡ k → at_most z p k ≡ SessionRead y n → Walked z file 0 p y n
+at_most→walked : (z : Sizes) (file : List ℕ) (p : ℕ) (y : Sizes) (n : ℕ) (k : Next) → next_of z file p ≡ k → at_most z p k ≡ session_read y n → Walked z file 0 p y n
 at_most→walked z file p y n Ended f e = stopped z file 0 p y n (inl f) e
 at_most→walked z file p y n Wrong f e = absurd (not_session _ y n refl e)
 at_most→walked z file p y n Cut f e = absurd (not_session _ y n refl e)
 at_most→walked z file p y n Whole f e = absurd (not_session _ y n refl e)
 
 onward→walked : (z : Sizes) (file : List ℕ) (more p : ℕ) (y : Sizes) (n : ℕ) (k : Next) (b : Bool) → next_of z file p ≡ k → position_fault z file p ≡ b
-    → (walk_from z file more (suc p) ≡ SessionRead y n → Walked z file more (suc p) y n) → onward z p k b (walk_from z file more (suc p)) ≡ SessionRead y n → Walked z file (suc more) p y n
+    → (walk_from z file more (suc p) ≡ session_read y n → Walked z file more (suc p) y n) → onward z p k b (walk_from z file more (suc p)) ≡ session_read y n → Walked z file (suc more) p y n
 onward→walked z file more p y n Ended b f g rest e = stopped z file (suc more) p y n (inl f) e
 onward→walked z file more p y n Wrong b f g rest e = absurd (not_session _ y n refl e)
 onward→walked z file more p y n Cut b f g rest e = stopped z file (suc more) p y n (inr (f, omega arith)) e
@@ -123,7 +123,7 @@ onward→walked z file more p y n Whole false f g rest e =
         let m : p ≡ q = omega arith in
         (subst (λ (i : ℕ). next_of z file i ≡ Whole) m f, subst (λ (i : ℕ). position_fault z file i ≡ false) m g)
 
-walk→walked : (z : Sizes) (file : List ℕ) (more p : ℕ) (y : Sizes) (n : ℕ) → walk_from z file more p ≡ SessionRead y n → Walked z file more p y n
+walk→walked : (z : Sizes) (file : List ℕ) (more p : ℕ) (y : Sizes) (n : ℕ) → walk_from z file more p ≡ session_read y n → Walked z file more p y n
 unfolding walk_from
 walk→walked z file zero p y n e = at_most→walked z file p y n (next_of z file p) refl e
 walk→walked z file (suc more) p y n e =
@@ -150,13 +150,13 @@ walked→standing z y file n f h s w =
     })
 
 read_by : (file : List ℕ) (y : Sizes) (n : ℕ) (a b : Bool) → first_whole file ≡ a → sizes_hold (sizes_at file) ≡ b
-    → cond a (cond b (walk_from (sizes_at file) file most_positions 0) (NotRead Limits)) (NotRead (Record 0)) ≡ SessionRead y n → Standing file y n
+    → cond a (cond b (walk_from (sizes_at file) file most_positions 0) (Err Limits)) (Err (Record 0)) ≡ session_read y n → Standing file y n
 read_by file y n true true f h e = walked→standing (sizes_at file) y file n f h refl (walk→walked (sizes_at file) file most_positions 0 y n e)
 read_by file y n true false f h e = absurd (not_session _ y n refl e)
 read_by file y n false b f h e = absurd (not_session _ y n refl e)
 
 -- a reading that gives a session: its positions stand in the file
-pub read→standing : (file : List ℕ) (z : Sizes) (n : ℕ) → read_of file ≡ SessionRead z n → Standing file z n
+pub read→standing : (file : List ℕ) (z : Sizes) (n : ℕ) → read_of file ≡ session_read z n → Standing file z n
 unfolding read_of
 read→standing file z n e = read_by file z n (first_whole file) (sizes_hold (sizes_at file)) refl refl e
 
@@ -165,7 +165,7 @@ abbrev pub Stops : Sizes → List ℕ → ℕ → Type 0
 Stops z file k = (next_of z file k ≡ Ended) ⊎ ((next_of z file k ≡ Cut) × (k < most_positions))
 
 stops_by : (file : List ℕ) (y : Sizes) (n : ℕ) (a b : Bool) → first_whole file ≡ a → sizes_hold (sizes_at file) ≡ b
-    → cond a (cond b (walk_from (sizes_at file) file most_positions 0) (NotRead Limits)) (NotRead (Record 0)) ≡ SessionRead y n → Stops y file n
+    → cond a (cond b (walk_from (sizes_at file) file most_positions 0) (Err Limits)) (Err (Record 0)) ≡ session_read y n → Stops y file n
 stops_by file y n true true f h e = let w = walk→walked (sizes_at file) file most_positions 0 y n e in subst (λ (z : Sizes). Stops z file n) (sym w.sizes) (narrow w.end)
   where
     narrow : (next_of (sizes_at file) file n ≡ Ended) ⊎ ((next_of (sizes_at file) file n ≡ Cut) × (n < 0 + most_positions)) → Stops (sizes_at file) file n
@@ -174,7 +174,7 @@ stops_by file y n true true f h e = let w = walk→walked (sizes_at file) file m
 stops_by file y n true false f h e = absurd (not_session _ y n refl e)
 stops_by file y n false b f h e = absurd (not_session _ y n refl e)
 
-pub read→stops : (file : List ℕ) (z : Sizes) (n : ℕ) → read_of file ≡ SessionRead z n → Stops z file n
+pub read→stops : (file : List ℕ) (z : Sizes) (n : ℕ) → read_of file ≡ session_read z n → Stops z file n
 unfolding read_of
 read→stops file z n e = stops_by file z n (first_whole file) (sizes_hold (sizes_at file)) refl refl e
 
@@ -220,8 +220,8 @@ ended→short z file p e =
 -- ---- a walk that is refused
 
 abbrev refusal_in : Reading → Refusal
-refusal_in (SessionRead z n) = Limits
-refusal_in (NotRead r) = r
+refusal_in (Ok s) = Limits
+refusal_in (Err r) = r
 
 -- why a walk is refused at position n: a whole record with a fault, a wrong head, or a right head behind 2,048 positions
 abbrev pub Fault : Sizes → List ℕ → (most n : ℕ) → Refusal → Type 0
@@ -240,17 +240,17 @@ record Broken (z : Sizes) (file : List ℕ) (more p : ℕ) (r : Refusal) : Type 
 breaks : (z : Sizes) (file : List ℕ) (more p : ℕ) (r : Refusal) → Fault z file (p + more) p r → Broken z file more p r
 breaks z file more p r f = record { n = p; low = omega arith; high = omega arith; each = λ q l h. absurd (omega arith); fault = f }
 
-is_session_lem : (z : Sizes) (n : ℕ) (r : Refusal) → SessionRead z n ≡ NotRead r → ⊥
+is_session_lem : (z : Sizes) (n : ℕ) (r : Refusal) → session_read z n ≡ Err r → ⊥
 is_session_lem z n r e = true≢false (ap is_session e)
 
-at_most→broken : (z : Sizes) (file : List ℕ) (p : ℕ) (r : Refusal) (k : Next) → next_of z file p ≡ k → at_most z p k ≡ NotRead r → Broken z file 0 p r
+at_most→broken : (z : Sizes) (file : List ℕ) (p : ℕ) (r : Refusal) (k : Next) → next_of z file p ≡ k → at_most z p k ≡ Err r → Broken z file 0 p r
 at_most→broken z file p r Ended f e = absurd (is_session_lem _ _ r e)
 at_most→broken z file p r Wrong f e = breaks z file 0 p r (inr (inl (f, sym (ap refusal_in e))))
 at_most→broken z file p r Cut f e = breaks z file 0 p r (inr (inr (inl f, omega arith, sym (ap refusal_in e))))
 at_most→broken z file p r Whole f e = breaks z file 0 p r (inr (inr (inr f, omega arith, sym (ap refusal_in e))))
 
 onward→broken : (z : Sizes) (file : List ℕ) (more p : ℕ) (r : Refusal) (k : Next) (b : Bool) → next_of z file p ≡ k → position_fault z file p ≡ b
-    → (walk_from z file more (suc p) ≡ NotRead r → Broken z file more (suc p) r) → onward z p k b (walk_from z file more (suc p)) ≡ NotRead r → Broken z file (suc more) p r
+    → (walk_from z file more (suc p) ≡ Err r → Broken z file more (suc p) r) → onward z p k b (walk_from z file more (suc p)) ≡ Err r → Broken z file (suc more) p r
 onward→broken z file more p r Ended b f g rest e = absurd (is_session_lem _ _ r e)
 onward→broken z file more p r Wrong b f g rest e = breaks z file (suc more) p r (inr (inl (f, sym (ap refusal_in e))))
 onward→broken z file more p r Cut b f g rest e = absurd (is_session_lem _ _ r e)
@@ -272,18 +272,18 @@ onward→broken z file more p r Whole false f g rest e =
         let m : p ≡ q = omega arith in
         (subst (λ (i : ℕ). next_of z file i ≡ Whole) m f, subst (λ (i : ℕ). position_fault z file i ≡ false) m g)
 
-walk→broken : (z : Sizes) (file : List ℕ) (more p : ℕ) (r : Refusal) → walk_from z file more p ≡ NotRead r → Broken z file more p r
+walk→broken : (z : Sizes) (file : List ℕ) (more p : ℕ) (r : Refusal) → walk_from z file more p ≡ Err r → Broken z file more p r
 unfolding walk_from
 walk→broken z file zero p r e = at_most→broken z file p r (next_of z file p) refl e
 walk→broken z file (suc more) p r e = onward→broken z file more p r (next_of z file p) (position_fault z file p) refl refl (walk→broken z file more (suc p) r) e
 
 -- a file with a right first record that is refused: some positions stand in it, and the record behind them shows the fault
-pub refused→standing : (file : List ℕ) (r : Refusal) → first_whole file ≡ true → sizes_hold (sizes_at file) ≡ true → read_of file ≡ NotRead r
+pub refused→standing : (file : List ℕ) (r : Refusal) → first_whole file ≡ true → sizes_hold (sizes_at file) ≡ true → read_of file ≡ Err r
     → (n : ℕ) × Standing file (sizes_at file) n × Fault (sizes_at file) file most_positions n r
 unfolding read_of
 refused→standing file r f h e =
     let z = sizes_at file in
-    let w = walk→broken z file most_positions 0 r ((λ i. cond (sym f i) (cond (sym h i) (walk_from z file most_positions 0) (NotRead Limits)) (NotRead (Record 0))) ∙ e) in (
+    let w = walk→broken z file most_positions 0 r ((λ i. cond (sym f i) (cond (sym h i) (walk_from z file most_positions 0) (Err Limits)) (Err (Record 0))) ∙ e) in (
       w.n,
       record {
         first = f;

@@ -1,18 +1,25 @@
 -- What a reader makes of any bytes, in one walk from left to right, and what it gives back. Definitions only.
-use Rattle.std.specs.Prelude.{Bool, true, false, ◌&&◌, cond, List, ℕ, zero, suc, ◌+◌, ◌*◌, leb, ltb, eqb, Float, length}
+use Rattle.std.specs.Prelude.{Bool, true, false, ◌&&◌, cond, List, ℕ, zero, suc, ◌+◌, ◌*◌, leb, ltb, eqb, Float, length, Result, Ok, Err}
 use Rattle.bool_laws.specs.Counts.{count_where}
 use Rattle.call.specs.Contents.{element_fault}
 use Rattle.records.specs.Numbers.{u16_at, f32_at}
 use Rattle.records.specs.Records.{head_is}
 use Rattle.session_file.specs.declared.Sizes.{Sizes}
+use Rattle.call.specs.declared.Refusal.{Refusal}
 use Rattle.call.specs.declared.Refusal.TheVariants.{Limits, OutputLength, Position, Record}
 use Rattle.session_file.specs.declared.Next.{Next}
 use Rattle.session_file.specs.declared.Next.TheVariants.{Ended, Wrong, Cut, Whole}
-use Rattle.session_file.specs.declared.Reading.{Reading}
-use Rattle.session_file.specs.declared.Reading.TheVariants.{SessionRead, NotRead}
 use Rattle.session_file.specs.Below.{any_below}
 use Rattle.session_file.specs.Sizes.{sizes_hold, most_positions, rows_of, pair_length, payload_length, record_length, record_start}
 use Rattle.session_file.specs.Form.{Session, session_of, cache_of}
+use Rattle.session_file.specs.declared.SessionRead.{SessionRead}
+
+-- what reading a file gives: its sizes and how many positions are whole in it, or a refusal
+abbrev pub Reading : Type 0
+Reading = Result SessionRead Refusal
+
+abbrev pub session_read : Sizes → ℕ → Reading
+session_read z n = Ok (record { sizes = z; positions = n })
 
 -- ---- the walk
 
@@ -33,17 +40,17 @@ position_fault z file p = any_below (payload_fault file (record_start z p + 6)) 
 
 -- 2,048 positions are whole: a right head is one too many, its payload not looked at
 abbrev pub at_most : Sizes → ℕ → Next → Reading
-at_most z p Ended = SessionRead z p
-at_most z p Wrong = NotRead (Record (record_start z p))
-at_most z p Cut = NotRead Limits
-at_most z p Whole = NotRead Limits
+at_most z p Ended = session_read z p
+at_most z p Wrong = Err (Record (record_start z p))
+at_most z p Cut = Err Limits
+at_most z p Whole = Err Limits
 
 -- The walk after p whole positions, with room for some more. It goes on behind a whole record without fault.
 abbrev pub onward : Sizes → ℕ → Next → Bool → Reading → Reading
-onward z p Ended fault rest = SessionRead z p
-onward z p Wrong fault rest = NotRead (Record (record_start z p))
-onward z p Cut fault rest = SessionRead z p
-onward z p Whole true rest = NotRead (Position p)
+onward z p Ended fault rest = session_read z p
+onward z p Wrong fault rest = Err (Record (record_start z p))
+onward z p Cut fault rest = session_read z p
+onward z p Whole true rest = Err (Position p)
 onward z p Whole false rest = rest
 
 unfoldable pub walk_from : Sizes → List ℕ → (more p : ℕ) → Reading
@@ -63,7 +70,7 @@ first_whole file = leb 14 (length file) && head_is file 0 8 1
 
 unfoldable pub read_of : List ℕ → Reading
 unfolding sizes_hold walk_from
-read_of file = let walk = walk_from (sizes_at file) file most_positions 0 in cond (first_whole file) (cond (sizes_hold (sizes_at file)) walk (NotRead Limits)) (NotRead (Record 0))
+read_of file = let walk = walk_from (sizes_at file) file most_positions 0 in cond (first_whole file) (cond (sizes_hold (sizes_at file)) walk (Err Limits)) (Err (Record 0))
 
 -- ---- the positions, in cache order
 
@@ -97,10 +104,10 @@ caches_fit z n keys values = eqb keys (rows_of z * n * z.size) && eqb values (ro
 
 unfoldable pub loaded_of : Reading → (file : List ℕ) → (keys values : List Float) → Loaded
 unfolding session_at
-loaded_of (NotRead r) file keys values = loaded (NotRead r) keys values
-loaded_of (SessionRead z n) file keys values =
-    let found = session_at z file n in
-    cond (caches_fit z n (length keys) (length values)) (loaded (SessionRead z n) found.keys found.values) (loaded (NotRead OutputLength) keys values)
+loaded_of (Err r) file keys values = loaded (Err r) keys values
+loaded_of (Ok s) file keys values =
+    let found = session_at s.sizes file s.positions in
+    cond (caches_fit s.sizes s.positions (length keys) (length values)) (loaded (Ok s) found.keys found.values) (loaded (Err OutputLength) keys values)
 
 -- the file's own refusal first, then 6
 unfoldable pub load_of : (file : List ℕ) → (keys values : List Float) → Loaded

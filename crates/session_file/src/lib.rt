@@ -1,8 +1,6 @@
 // The types of saved sessions: the sizes that a file begins with, what reading a file gives, and what writing one answers. Every number may be anything that its type holds.
 #![tactic(auto)]
 
-use call::Refusal;
-
 #[derive(Clone, Copy)]
 pub struct Sizes {
     // B
@@ -24,16 +22,16 @@ pub enum Next {
     Whole,
 }
 
-// What reading a file gives: its sizes and how many positions are whole in it.
+// What reading a file gives, where no refusal applies: its sizes and how many positions are whole in it.
 #[derive(Clone, Copy)]
-pub enum Reading {
-    SessionRead { sizes: Sizes, positions: usize },
-    NotRead(Refusal),
+pub struct SessionRead {
+    pub sizes: Sizes,
+    pub positions: usize,
 }
 
-// What writing answers: how many positions stand whole in the file, and how many bytes of the buffer it has.
+// What writing answers, where no refusal applies: how many positions stand whole in the file, and how many bytes of the buffer it has.
 #[derive(Clone, Copy)]
-pub enum Saving {
-    Saved { positions: usize, used: usize },
-    NotSaved(Refusal),
+pub struct Saved {
+    pub positions: usize,
+    pub used: usize,
 }

@@ -5,7 +5,7 @@ ghost use Rattle.std.specs.Prelude.{◌≡◌, ◌≤◌, length};
 ghost use Rattle.session_file.specs.Reader.{sizes_at, read_of};
 
 use call::Refusal;
-use session_file::{Reading, Sizes};
+use session_file::{SessionRead, Sizes};
 
 // The sizes that the first record holds.
 fn sizes_at(file: &[u8]) -> Sizes
@@ -21,7 +21,7 @@ fn sizes_at(file: &[u8]) -> Sizes
 }
 
 // The sizes of a file and how many positions are whole in it, or the first fault in byte order.
-pub fn inspect(file: &[u8]) -> Reading
+pub fn inspect(file: &[u8]) -> Result<SessionRead, Refusal>
     ensures { result ≡ read_of file.now }
 {
     if 14 <= file.len() {
@@ -30,8 +30,8 @@ pub fn inspect(file: &[u8]) -> Reading
             if session_sizes::sizes_hold(sizes) {
                 return session_walk::walk(file, sizes);
             }
-            return Reading::NotRead(Refusal::Limits);
+            return Err(Refusal::Limits);
         }
     }
-    Reading::NotRead(Refusal::Record { byte: 0 })
+    Err(Refusal::Record { byte: 0 })
 }

@@ -3,20 +3,17 @@ use mathlib.Core.Path.{◌≡◌, ap, ◌∙◌}
 use mathlib.Core.List.{List}
 use Prim.Native.Nat.{ℕ}
 use lib.Ieee.{Float}
-use Rattle.session_file.specs.declared.Reading.{Reading}
-use Rattle.session_file.specs.declared.Saving.{Saving}
+use Rattle.session_file.specs.Reader.{Reading}
+use Rattle.session_file.specs.Writer.{Saving}
 use Rattle.session_file.specs.Reader.{Loaded, loaded}
 use Rattle.session_file.specs.Writer.{Written, written}
 use Rattle.session_file.specs.Numbers.{ReadingReport, reading_report, SavingReport, saving_report}
-use Rattle.session_interface.specs.declared.ReadingNumbers.{ReadingNumbers}
-use Rattle.session_interface.specs.declared.SavingNumbers.{SavingNumbers}
-use Rattle.session_interface.specs.Numbers.{reading_in, saving_in}
 use Rattle.session_interface.specs.Sessions.{LoadedReport, loaded_with, loaded_report, SavedReport, saved_report}
 
-pub loaded_is : (n : ReadingNumbers) (r : Reading) (keys values : List Float) (l : Loaded) → reading_in n ≡ reading_report r → loaded r keys values ≡ l → loaded_with (reading_in n) keys values ≡ loaded_report l
+pub loaded_is : (n : ReadingReport) (r : Reading) (keys values : List Float) (l : Loaded) → n ≡ reading_report r → loaded r keys values ≡ l → loaded_with n keys values ≡ loaded_report l
 loaded_is n r keys values l p q = ap (λ (x : ReadingReport). loaded_with x keys values) p ∙ ap loaded_report q
 
-pub saved_is : (n : SavingNumbers) (a : Saving) (buffer : List ℕ) (w : Written) → saving_in n ≡ saving_report a → written a buffer ≡ w → ◌≡◌ {A = SavedReport} (record { report = saving_in n; buffer = buffer }) (saved_report w)
+pub saved_is : (n : SavingReport) (a : Saving) (buffer : List ℕ) (w : Written) → n ≡ saving_report a → written a buffer ≡ w → ◌≡◌ {A = SavedReport} (record { report = n; buffer = buffer }) (saved_report w)
 saved_is n a buffer w p q = ap (λ (x : SavingReport). record { report = x; buffer = buffer }) p ∙ ap saved_report q
 
 -- a contract over what is given back settles the report and the caches, or the buffer

@@ -45,10 +45,16 @@ pub record SavedReport : Type 0 where
   pub report : SavingReport
   pub buffer : List ℕ
 
+abbrev pub saving_of : (number positions used place : ℕ) → SavingReport
+saving_of number positions used place = record { number = number; positions = positions; used = used; place = place }
+
 abbrev pub saved_with : (number positions used place : ℕ) → List ℕ → SavedReport
-saved_with number positions used place buffer = record { report = record { number = number; positions = positions; used = used; place = place }; buffer = buffer }
+saved_with number positions used place buffer = record { report = saving_of number positions used place; buffer = buffer }
 
 -- the same, as an `ensures` names the numbers behind references and the lent buffer
+abbrev pub saving_by : ℕ → (positions used place : LentNumber) → SavingReport
+saving_by number positions used place = saving_of number positions.exit.now used.exit.now place.exit.now
+
 abbrev pub saved_by : ℕ → (positions used place : LentNumber) → (buffer : LentMut ℕ) → SavedReport
 saved_by number positions used place buffer = saved_with number positions.exit.now used.exit.now place.exit.now buffer.exit.now
 

@@ -1,4 +1,5 @@
 -- The promises on writing: what a writer says is saved is what the reader then gives. Assumes nothing.
+use Rattle.std.specs.Prelude.{None}
 use mathlib.Core.Path.{◌≡◌, sym, ap, ◌∙◌, subst}
 use mathlib.Core.Bool.{Bool, false, ◌||◌}
 use mathlib.Core.List.{List, ◌++◌, append_assoc}
@@ -12,16 +13,14 @@ use lib.Seq.{length-take-le, take-take, take_at, drop_at}
 use borrow.Author.Tests.{eqb-true}
 use Rattle.session_file.proofs.Caches.{by_cells, length_row, row_cell}
 use Rattle.bool_laws.proofs.Tests.{both_true, either_false}
-use Rattle.call.specs.Contents.{nothing, element_fault}
+use Rattle.call.specs.Contents.{element_fault}
 use Rattle.records.specs.Records.{written_at}
 use Rattle.session_file.specs.declared.Sizes.{Sizes}
-use Rattle.session_file.specs.declared.Reading.TheVariants.{SessionRead}
-use Rattle.session_file.specs.declared.Saving.TheVariants.{Saved}
 use Rattle.session_file.specs.Below.{least_from, joined}
 use Rattle.session_file.specs.Sizes.{rows_of, record_start}
 use Rattle.session_file.specs.Form.{Session, session_of, cache_row, position_bytes}
-use Rattle.session_file.specs.Reader.{read_of, session_at}
-use Rattle.session_file.specs.Writer.{written, row_fault, rows_fault, append_of}
+use Rattle.session_file.specs.Reader.{read_of, session_at, session_read}
+use Rattle.session_file.specs.Writer.{written, row_fault, rows_fault, append_of, saved}
 use Rattle.session_file.proofs.Below.{none→each, least_none→each}
 use Rattle.session_file.proofs.Walks.{Standing, read→standing}
 use Rattle.session_laws.specs.Sessions.{AllWithin, Savable, both_of}
@@ -34,7 +33,7 @@ use Rattle.session_laws.proofs.Passed.{Passed, saved→passed}
 
 -- ---- rows without fault
 
-module _ (z : Sizes) (count : ℕ) (keys values : List Float) (sound : least_from (rows_fault (session_of z count keys values)) count 0 ≡ nothing) where
+module _ (z : Sizes) (count : ℕ) (keys values : List Float) (sound : least_from (rows_fault (session_of z count keys values)) count 0 ≡ None) where
   -- no row of a position is at fault
   rows_sound : (p r : ℕ) → p < count → r < rows_of z → (row_fault (cache_row count z.size keys p r) ≡ false) × (row_fault (cache_row count z.vsize values p r) ≡ false)
   unfolding rows_fault
@@ -162,12 +161,12 @@ module _ (buffer : List ℕ) (used count : ℕ) (keys values : List Float) (m u 
     inside = omega (arith, ap length left_is, length-take u left, long, x.end);
     behind = (λ i. drop ((sym x.end ∙ sym added_long) i) (sym x.buffer_left i)) ∙ drop_written buffer (record_start z n) added fits_in ∙ ap (λ (i : ℕ). drop i buffer) (added_long ∙ x.end);
     before = ap (take (record_start z n)) (sym x.buffer_left) ∙ front_written buffer (record_start z n) added (omega (arith, fits_in));
-    reads = ap read_of left_is ∙ ends→read (old ++ added) z (n + count) all_stand long ∙ ap (SessionRead z) x.total;
+    reads = ap read_of left_is ∙ ends→read (old ++ added) z (n + count) all_stand long ∙ ap (session_read z) x.total;
     session = (λ i. session_at z (left_is i) (sym x.total i)) ∙ session_both old n new old_stands old_ends savable x.most ∙ ap (λ (s : Session). both_of s new) old_session;
     cut = λ c l h. ap read_of (sym (take-take c u left h) ∙ ap (take c) left_is) ∙ cut→read (old ++ added) z (n + count) c all_stand l (omega (arith, x.end));
   }
 
 -- every writer that says saved keeps these promises, of rows of f32
-pub append_holds : (buffer : List ℕ) (used count : ℕ) (keys values : List Float) (m u : ℕ) (left : List ℕ) → AllFit keys → AllFit values → append_of buffer used count keys values ≡ written (Saved m u) left
+pub append_holds : (buffer : List ℕ) (used count : ℕ) (keys values : List Float) (m u : ℕ) (left : List ℕ) → AllFit keys → AllFit values → append_of buffer used count keys values ≡ written (saved m u) left
     → AppendHolds buffer used count keys values m u left
 append_holds buffer used count keys values m u left kf vf e = holds buffer used count keys values m u left kf vf (saved→passed buffer used count keys values m u left e)

@@ -12,11 +12,10 @@ use Rattle.session_laws.proofs.Given.{length_cache_at}
 use Rattle.tensor_laws.proofs.Tabulate.{none_long}
 use Rattle.session_file.specs.declared.Sizes.{Sizes}
 use Rattle.call.specs.declared.Refusal.TheVariants.{Limits, Room}
-use Rattle.session_file.specs.declared.Saving.TheVariants.{Saved}
 use Rattle.session_file.specs.Sizes.{sizes_hold, rows_of, record_length}
 use Rattle.session_file.specs.Form.{session_of, sizes_bytes}
 use Rattle.session_file.specs.Reader.{read_of, cache_at, session_at}
-use Rattle.session_file.specs.Writer.{Written, written, refused_with, begin_of}
+use Rattle.session_file.specs.Writer.{Written, written, refused_with, begin_of, saved}
 use Rattle.records.specs.Records.{written_at}
 use Rattle.session_laws.specs.Statements.{BeginHolds}
 use Rattle.session_laws.proofs.Files.{begun_stands}
@@ -35,7 +34,7 @@ unfolding session_at
 no_position z file = λ i. session_of z 0 (no_cache z file 0 z.size i) (no_cache z file (z.size * 4) z.vsize i)
 
 module _ (buffer : List ℕ) (z : Sizes) (m u : ℕ) (left : List ℕ) where
-  begun : sizes_hold z ≡ true → 14 ≤ length buffer → written (Saved 0 14) (written_at buffer 0 (sizes_bytes z)) ≡ written (Saved m u) left → BeginHolds buffer z m u left
+  begun : sizes_hold z ≡ true → 14 ≤ length buffer → written (saved 0 14) (written_at buffer 0 (sizes_bytes z)) ≡ written (saved m u) left → BeginHolds buffer z m u left
   begun h l e =
       let n : 0 ≡ m = ap (λ (w : Written). positions_in w.answer) e in
       let b : 14 ≡ u = ap (λ (w : Written). bytes_in w.answer) e in
@@ -49,18 +48,18 @@ module _ (buffer : List ℕ) (z : Sizes) (m u : ℕ) (left : List ℕ) where
         session = no_position z (take u left);
       }
 
-  room_by : sizes_hold z ≡ true → (b : Bool) → leb 14 (length buffer) ≡ b → cond b (written (Saved 0 14) (written_at buffer 0 (sizes_bytes z))) (refused_with Room buffer) ≡ written (Saved m u) left
+  room_by : sizes_hold z ≡ true → (b : Bool) → leb 14 (length buffer) ≡ b → cond b (written (saved 0 14) (written_at buffer 0 (sizes_bytes z))) (refused_with Room buffer) ≡ written (saved m u) left
       → BeginHolds buffer z m u left
   room_by h true l e = begun h (leb-true 14 (length buffer) l) e
   room_by h false l e = not_saved Room buffer m u left e
 
   limits_by : (b : Bool) → sizes_hold z ≡ b
-      → cond b (cond (leb 14 (length buffer)) (written (Saved 0 14) (written_at buffer 0 (sizes_bytes z))) (refused_with Room buffer)) (refused_with Limits buffer) ≡ written (Saved m u) left
+      → cond b (cond (leb 14 (length buffer)) (written (saved 0 14) (written_at buffer 0 (sizes_bytes z))) (refused_with Room buffer)) (refused_with Limits buffer) ≡ written (saved m u) left
       → BeginHolds buffer z m u left
   limits_by true h e = room_by h (leb 14 (length buffer)) refl e
   limits_by false h e = not_saved Limits buffer m u left e
 
   -- every writer that says it has begun keeps this promise
-  pub begin_holds : begin_of buffer z ≡ written (Saved m u) left → BeginHolds buffer z m u left
+  pub begin_holds : begin_of buffer z ≡ written (saved m u) left → BeginHolds buffer z m u left
   unfolding begin_of
   begin_holds e = limits_by (sizes_hold z) refl e

@@ -1,4 +1,5 @@
 -- A file in which positions stand, cut after any byte: the reader gives exactly the positions that are whole. Assumes nothing.
+use Rattle.std.specs.Prelude.{Err}
 use mathlib.Core.Path.{◌≡◌, sym, ap, ◌∙◌, subst}
 use mathlib.Core.Logic.{inl, inr}
 use mathlib.Core.Bool.{true, false, ◌&&◌, cond}
@@ -21,9 +22,8 @@ use Rattle.session_file.specs.declared.Sizes.{Sizes}
 use Rattle.call.specs.declared.Refusal.TheVariants.{Limits, Record}
 use Rattle.session_file.specs.declared.Next.{Next}
 use Rattle.session_file.specs.declared.Next.TheVariants.{Whole}
-use Rattle.session_file.specs.declared.Reading.TheVariants.{SessionRead, NotRead}
 use Rattle.session_file.specs.Sizes.{sizes_hold, most_positions, rows_of, payload_length, record_length, record_start}
-use Rattle.session_file.specs.Reader.{next_of, payload_fault, position_fault, at_most, onward, walk_from, sizes_at, first_whole, read_of}
+use Rattle.session_file.specs.Reader.{next_of, payload_fault, position_fault, at_most, onward, walk_from, sizes_at, first_whole, read_of, session_read}
 use Rattle.session_file.proofs.Walks.{Standing, next_at, Stops}
 
 -- ---- positions rise
@@ -48,16 +48,16 @@ abbrev Sound : Sizes → List ℕ → ℕ → Type 0
 Sound z file q = (next_of z file q ≡ Whole) × (position_fault z file q ≡ false)
 
 module _ (z : Sizes) (file : List ℕ) (k : ℕ) where
-  stops_here : Stops z file k → (more : ℕ) → k + more ≡ most_positions → walk_from z file more k ≡ SessionRead z k
+  stops_here : Stops z file k → (more : ℕ) → k + more ≡ most_positions → walk_from z file more k ≡ session_read z k
   unfolding walk_from
   stops_here (inl e) zero m = ap (at_most z k) e
   stops_here (inl e) (suc more) m = ap (λ (x : Next). onward z k x (position_fault z file k) (walk_from z file more (suc k))) e
   stops_here (inr e) zero m = absurd (omega (arith, e.1))
   stops_here (inr e) (suc more) m = ap (λ (x : Next). onward z k x (position_fault z file k) (walk_from z file more (suc k))) e.0
 
-  walk_to : k ≤ most_positions → Stops z file k → ((q : ℕ) → q < k → Sound z file q) → (d p more : ℕ) → p + d ≡ k → p + more ≡ most_positions → walk_from z file more p ≡ SessionRead z k
+  walk_to : k ≤ most_positions → Stops z file k → ((q : ℕ) → q < k → Sound z file q) → (d p more : ℕ) → p + d ≡ k → p + more ≡ most_positions → walk_from z file more p ≡ session_read z k
   unfolding walk_from
-  walk_to l stop each zero p more e m = let f : k ≡ p = omega arith in subst (λ (x : ℕ). walk_from z file more x ≡ SessionRead z k) f (stops_here stop more (omega arith))
+  walk_to l stop each zero p more e m = let f : k ≡ p = omega arith in subst (λ (x : ℕ). walk_from z file more x ≡ session_read z k) f (stops_here stop more (omega arith))
   walk_to l stop each (suc d) p zero e m = absurd (omega arith)
   walk_to l stop each (suc d) p (suc more) e m =
       let s = each p (omega arith) in
@@ -66,12 +66,12 @@ module _ (z : Sizes) (file : List ℕ) (k : ℕ) where
 
 -- a file with a right first record whose walk stops behind k sound positions
 pub read_as : (z : Sizes) (file : List ℕ) (k : ℕ) → first_whole file ≡ true → z ≡ sizes_at file → sizes_hold z ≡ true → k ≤ most_positions → Stops z file k → ((q : ℕ) → q < k → Sound z file q)
-    → read_of file ≡ SessionRead z k
+    → read_of file ≡ session_read z k
 unfolding read_of
 read_as z file k f s h l stop each =
-    (λ i. cond (f i) (cond (sizes_hold (sizes_at file)) (walk_from (sizes_at file) file most_positions 0) (NotRead Limits)) (NotRead (Record 0)))
-    ∙ (λ i. cond (sizes_hold (sym s i)) (walk_from (sym s i) file most_positions 0) (NotRead Limits))
-    ∙ (λ i. cond (h i) (walk_from z file most_positions 0) (NotRead Limits))
+    (λ i. cond (f i) (cond (sizes_hold (sizes_at file)) (walk_from (sizes_at file) file most_positions 0) (Err Limits)) (Err (Record 0)))
+    ∙ (λ i. cond (sizes_hold (sym s i)) (walk_from (sym s i) file most_positions 0) (Err Limits))
+    ∙ (λ i. cond (h i) (walk_from z file most_positions 0) (Err Limits))
     ∙ walk_to z file k l stop each k 0 most_positions (omega arith) (omega arith)
 
 -- ---- a cut of a file in which positions stand
@@ -121,7 +121,7 @@ module _ (file : List ℕ) (z : Sizes) (c : ℕ) (inside : c ≤ length file) wh
 -- ---- the reader
 
 -- a file that ends with its last position, or within the record behind it
-pub standing→read : (file : List ℕ) (z : Sizes) (k : ℕ) → Standing file z k → Stops z file k → read_of file ≡ SessionRead z k
+pub standing→read : (file : List ℕ) (z : Sizes) (k : ℕ) → Standing file z k → Stops z file k → read_of file ≡ session_read z k
 standing→read file z k s stop =
     read_as z file k s.first s.sizes s.limits s.most stop (λ q l. let a = record_end z q k l in (whole_at z file q (s.heads q l) (omega (arith, s.inside)), s.sound q l))
 
@@ -137,7 +137,7 @@ whole_records z c l =
 -- A cut inside the record behind n positions, or before: where it leaves that record's head, the head is right and is not the 2,049th.
 pub tail→read : (file : List ℕ) (z : Sizes) (n c : ℕ) → Standing file z n → 14 ≤ c → c ≤ length file → c < record_start z n + record_length z
     → (record_start z n + 6 ≤ c → (head_is file (record_start z n) (payload_length z) 2 ≡ true) × (n < most_positions))
-    → read_of (take c file) ≡ SessionRead z ((c - 14) / record_length z)
+    → read_of (take c file) ≡ session_read z ((c - 14) / record_length z)
 tail→read file z n c s l inside h tail = standing→read (take c file) z k kept (stop (dec_lt c (record_start z k + 6)))
   where
     k : ℕ
@@ -165,10 +165,10 @@ tail→read file z n c s l inside h tail = standing→read (take c file) z k kep
         inr (next_cut z (take c file) k (omega arith) (head_is_take c (record_start z k) (payload_length z) 2 file (omega arith) ∙ b.0) (omega (arith, (whole_records z c l).1)), b.1)
 
 -- a cut before the end of the positions that stand
-pub cut→read : (file : List ℕ) (z : Sizes) (n c : ℕ) → Standing file z n → 14 ≤ c → c ≤ record_start z n → read_of (take c file) ≡ SessionRead z ((c - 14) / record_length z)
+pub cut→read : (file : List ℕ) (z : Sizes) (n c : ℕ) → Standing file z n → 14 ≤ c → c ≤ record_start z n → read_of (take c file) ≡ session_read z ((c - 14) / record_length z)
 cut→read file z n c s l h = tail→read file z n c s l (omega (arith, s.inside)) (omega arith) (λ b. absurd (omega arith))
 
 -- without the whole first record a file is refused at byte 0
-pub first_missing : (file : List ℕ) → length file < 14 → read_of file ≡ NotRead (Record 0)
+pub first_missing : (file : List ℕ) → length file < 14 → read_of file ≡ Err (Record 0)
 unfolding read_of
 first_missing file l = rw (lt-leb 14 (length file) l)

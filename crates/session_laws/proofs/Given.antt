@@ -15,10 +15,9 @@ use Rattle.call.specs.Contents.{element_fault}
 use Rattle.records.specs.Numbers.{u32_at, f32_at}
 use Rattle.records.proofs.Places.{f32_at_take}
 use Rattle.session_file.specs.declared.Sizes.{Sizes}
-use Rattle.session_file.specs.declared.Reading.TheVariants.{SessionRead}
 use Rattle.session_file.specs.Sizes.{rows_of, pair_length, record_length, record_start}
 use Rattle.session_file.specs.Form.{Session, session_of, cache_cell, cache_of}
-use Rattle.session_file.specs.Reader.{position_fault, payload_fault, read_of, cache_at, session_at, file_cell}
+use Rattle.session_file.specs.Reader.{position_fault, payload_fault, read_of, cache_at, session_at, file_cell, session_read}
 use Rattle.session_file.proofs.Below.{none→each}
 use Rattle.session_file.proofs.Walks.{Standing, read→standing}
 use Rattle.session_laws.specs.Sessions.{AllWithin, Savable, first_positions}
@@ -106,5 +105,5 @@ standing→savable file z n s = record {
   values = cells_within z file n s z.size z.vsize (omega arith);
 }
 
-pub read→savable : (file : List ℕ) (z : Sizes) (n : ℕ) → read_of file ≡ SessionRead z n → Savable (session_at z file n)
+pub read→savable : (file : List ℕ) (z : Sizes) (n : ℕ) → read_of file ≡ session_read z n → Savable (session_at z file n)
 read→savable file z n e = standing→savable file z n (read→standing file z n e)

@@ -1,4 +1,5 @@
 -- The promises on reading: a file that is read, and the file of a session. Assumes nothing.
+use Rattle.std.specs.Prelude.{Err}
 use mathlib.Core.Path.{◌≡◌, sym, ap, ◌∙◌, subst}
 use mathlib.Core.Logic.{inl, inr}
 use mathlib.Core.Bool.{cond, true}
@@ -15,10 +16,9 @@ use Rattle.session_file.proofs.Caches.{cache_of_cells}
 use Rattle.records.specs.Records.{head_is}
 use Rattle.session_file.specs.declared.Sizes.{Sizes}
 use Rattle.call.specs.declared.Refusal.TheVariants.{Record}
-use Rattle.session_file.specs.declared.Reading.TheVariants.{SessionRead, NotRead}
 use Rattle.session_file.specs.Sizes.{most_positions, rows_of, payload_length, record_length, record_start}
 use Rattle.session_file.specs.Form.{Session, session_of, sizes_bytes, file_of, cache_cell, cache_of}
-use Rattle.session_file.specs.Reader.{read_of, session_at}
+use Rattle.session_file.specs.Reader.{read_of, session_at, session_read}
 use Rattle.session_file.proofs.Walks.{Standing, Stops, read→standing, read→stops, cut→record, ended→short}
 use Rattle.session_laws.specs.Sessions.{Savable, cell_behind, first_positions, both_of}
 use Rattle.session_laws.specs.Statements.{whole_in, ReadHolds, SavedHolds}
@@ -43,11 +43,11 @@ whole_least z n c h = go (dec_lt (whole_in z c) n)
     go (yes a) = absurd (omega (arith, record_end z (whole_in z c) n a, (whole_records z c (omega arith)).1))
     go (no a) = omega arith
 
-pub cut_missing : (file : List ℕ) (c : ℕ) → c < 14 → read_of (take c file) ≡ NotRead (Record 0)
+pub cut_missing : (file : List ℕ) (c : ℕ) → c < 14 → read_of (take c file) ≡ Err (Record 0)
 cut_missing file c l = first_missing (take c file) (omega (arith, length-take c file))
 
 -- what stands behind the last position of a file that is read
-module _ (file : List ℕ) (z : Sizes) (n : ℕ) (e : read_of file ≡ SessionRead z n) where
+module _ (file : List ℕ) (z : Sizes) (n : ℕ) (e : read_of file ≡ session_read z n) where
   ends_inside : length file < record_start z n + record_length z
   ends_inside = go (read→stops file z n e)
     where
@@ -62,7 +62,7 @@ module _ (file : List ℕ) (z : Sizes) (n : ℕ) (e : read_of file ≡ SessionRe
       go (inl a) = absurd (omega (arith, ended→short z file n a))
       go (inr a) = ((cut→record z file n a.0).0, a.1)
 
-  read_cut : (c : ℕ) → 14 ≤ c → c ≤ length file → read_of (take c file) ≡ SessionRead z (whole_in z c)
+  read_cut : (c : ℕ) → 14 ≤ c → c ≤ length file → read_of (take c file) ≡ session_read z (whole_in z c)
   read_cut c l h = tail→read file z n c (read→standing file z n e) l h (omega (arith, ends_inside)) (λ b. tail_head (omega arith))
 
   read_fewer : (c : ℕ) → 14 ≤ c → c ≤ length file → whole_in z c ≤ n
@@ -80,11 +80,11 @@ module _ (file : List ℕ) (z : Sizes) (n : ℕ) (s : Standing file z n) where
   cut_same c l h = session_cut z file n (whole_in z c) c (whole_most z n c l h) (whole_records z c l).0
 
   -- a file that ends with its last position is read as those that stand in it
-  pub ends→read : length file ≡ record_start z n → read_of file ≡ SessionRead z n
+  pub ends→read : length file ≡ record_start z n → read_of file ≡ session_read z n
   ends→read e = standing→read file z n s (inl (next_ended z file n (omega arith)))
 
 -- every reading that gives a session keeps these promises
-pub read_holds : (file : List ℕ) (z : Sizes) (n : ℕ) → read_of file ≡ SessionRead z n → ReadHolds file z n
+pub read_holds : (file : List ℕ) (z : Sizes) (n : ℕ) → read_of file ≡ session_read z n → ReadHolds file z n
 read_holds file z n e =
     let s = read→standing file z n e in
     record { within = standing→savable file z n s; rewritten = rewritten file z n s; missing = cut_missing file; cut = read_cut file z n e; fewer = read_fewer file z n e; same = read_same file z n e }

@@ -6,7 +6,7 @@ ghost use Rattle.session_file.specs.Sizes.{sizes_hold, rows_of, record_start};
 ghost use Rattle.session_file.specs.Reader.{position_fault, cache_at, loaded, load_of};
 
 use call::Refusal;
-use session_file::{Reading, Sizes};
+use session_file::{SessionRead, Sizes};
 
 // One cache of n whole positions without fault: rows of that size, which begin so many bytes into each pair of rows. The file is read in order.
 fn load_cache(file: &[u8], sizes: Sizes, n: usize, behind: usize, size: usize, cache: &mut [f32])
@@ -21,32 +21,25 @@ fn load_cache(file: &[u8], sizes: Sizes, n: usize, behind: usize, size: usize, c
 {
     let rows = sizes.batches * sizes.kvheads;
     let pair = (sizes.size + sizes.vsize) * 4;
-    let all = rows * n;
-    let mut i = 0;
-    while i < all {
+    for i in 0..rows * n {
         let p = i / rows;
         let r = i % rows;
         let from = session_sizes::record_start(sizes, p) + 6 + r * pair + behind;
         let to = (r * n + p) * size;
         records_read::read_row(&file[from..from + size * 4], &mut cache[to..to + size]);
-        i += 1;
     }
 }
 
 // The positions of a file in caches of exactly their lengths. The file's own refusal comes first, then that of a cache.
-pub fn load(file: &[u8], keys: &mut [f32], values: &mut [f32]) -> Reading
+pub fn load(file: &[u8], keys: &mut [f32], values: &mut [f32]) -> Result<SessionRead, Refusal>
     ensures { loaded result keys.new values.new ≡ load_of file.now keys.old values.old }
 {
-    let reading = session_inspect::inspect(file);
-    match reading {
-        Reading::NotRead(refusal) => Reading::NotRead(refusal),
-        Reading::SessionRead { sizes, positions } => {
-            if session_sizes::caches_fit(sizes, positions, keys.len(), values.len()) {
-                load_cache(file, sizes, positions, 0, sizes.size, keys);
-                load_cache(file, sizes, positions, sizes.size * 4, sizes.vsize, values);
-                return Reading::SessionRead { sizes, positions };
-            }
-            Reading::NotRead(Refusal::OutputLength)
-        }
+    let read = session_inspect::inspect(file)?;
+    let SessionRead { sizes, positions } = read;
+    if session_sizes::caches_fit(sizes, positions, keys.len(), values.len()) {
+        load_cache(file, sizes, positions, 0, sizes.size, keys);
+        load_cache(file, sizes, positions, sizes.size * 4, sizes.vsize, values);
+        return Ok(read);
     }
+    Err(Refusal::OutputLength)
 }

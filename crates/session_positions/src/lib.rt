@@ -33,8 +33,7 @@ fn write_position(keys: &[f32], values: &[f32], sizes: Sizes, n: usize, p: usize
     let rows = sizes.batches * sizes.kvheads;
     let pair = (sizes.size + sizes.vsize) * 4;
     records_write::put_head(bytes, 0, (rows * pair) as u32, 2);
-    let mut r = 0;
-    while r < rows {
+    for r in 0..rows {
         let from = 6 + r * pair;
         let to = from + pair;
         write_pair(
@@ -42,7 +41,6 @@ fn write_position(keys: &[f32], values: &[f32], sizes: Sizes, n: usize, p: usize
             session_rows::row(values, n, sizes.vsize, p, r),
             &mut bytes[from..to],
         );
-        r += 1;
     }
 }
 
@@ -54,11 +52,9 @@ pub fn write_positions(keys: &[f32], values: &[f32], sizes: Sizes, n: usize, byt
     ensures { bytes.new ≡ joined (position_bytes (session_of sizes n keys.now values.now)) n }
 {
     let long = 6 + session_sizes::payload_length(sizes);
-    let mut p = 0;
-    while p < n {
+    for p in 0..n {
         let from = p * long;
         let to = from + long;
         write_position(keys, values, sizes, n, p, &mut bytes[from..to]);
-        p += 1;
     }
 }

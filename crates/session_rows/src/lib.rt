@@ -5,7 +5,6 @@ ghost use Rattle.std.specs.Prelude.{◌≡◌, ◌≤◌, ◌<◌, length, get_o
 ghost use Rattle.std.specs.Float.{nan};
 ghost use Rattle.bool_laws.specs.Counts.{count_where};
 ghost use Rattle.call.specs.Contents.{element_fault};
-ghost use Rattle.contents.specs.Faults.{index_or};
 ghost use Rattle.session_file.specs.Below.{least_from};
 ghost use Rattle.session_file.specs.Form.{session_of, cache_row};
 ghost use Rattle.session_writer.specs.Fits.{CacheRowFits, CachesFit};
@@ -18,13 +17,9 @@ fn row_faults(row: &[f32]) -> u32
     requires { length row.now ≤ 256 }
     ensures { result ≡ count_where (length row.now) (λ k. element_fault (get_or row.now k nan)) }
 {
-    let mut faults = 0;
-    let mut i = 0;
-    while i < row.len() {
-        faults += contents_elements::fault_number(row[i]);
-        i += 1;
-    }
-    faults
+    row.iter()
+        .map(|x| contents_elements::fault_number(*x))
+        .sum()
 }
 
 // Row r of position p of a cache of n positions.
@@ -43,31 +38,26 @@ fn rows_fault(keys: &[f32], values: &[f32], sizes: Sizes, n: usize, p: usize) ->
     requires p_lt_n { p < n }
     ensures { result ≡ rows_fault (session_of sizes n keys.now values.now) p }
 {
-    let rows = sizes.batches * sizes.kvheads;
-    let mut r = 0;
-    while r < rows {
+    for r in 0..sizes.batches * sizes.kvheads {
         if 0 < row_faults(row(keys, n, sizes.size, p, r)) {
             return true;
         }
         if 0 < row_faults(row(values, n, sizes.vsize, p, r)) {
             return true;
         }
-        r += 1;
     }
     false
 }
 
-// The first position with an element at fault, or n where there is none.
-pub fn first_fault(keys: &[f32], values: &[f32], sizes: Sizes, n: usize) -> usize
+// The first position with an element at fault.
+pub fn first_fault(keys: &[f32], values: &[f32], sizes: Sizes, n: usize) -> Option<usize>
     requires { CachesFit sizes n (length keys.now) (length values.now) }
-    ensures { result ≡ index_or (least_from (rows_fault (session_of sizes n keys.now values.now)) n 0) n }
+    ensures { result ≡ least_from (rows_fault (session_of sizes n keys.now values.now)) n 0 }
 {
-    let mut p = 0;
-    while p < n {
+    for p in 0..n {
         if rows_fault(keys, values, sizes, n, p) {
-            return p;
+            return Some(p);
         }
-        p += 1;
     }
-    n
+    None
 }

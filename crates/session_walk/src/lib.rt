@@ -6,7 +6,7 @@ ghost use Rattle.session_file.specs.Sizes.{sizes_hold};
 ghost use Rattle.session_file.specs.Reader.{next_of, walk_from};
 
 use call::Refusal;
-use session_file::{Next, Reading, Sizes};
+use session_file::{Next, SessionRead, Sizes};
 
 // What stands where the record of position p would begin.
 fn next(file: &[u8], sizes: Sizes, p: usize) -> Next
@@ -29,34 +29,32 @@ fn next(file: &[u8], sizes: Sizes, p: usize) -> Next
 }
 
 // The walk over the records of positions.
-pub fn walk(file: &[u8], sizes: Sizes) -> Reading
+pub fn walk(file: &[u8], sizes: Sizes) -> Result<SessionRead, Refusal>
     requires { sizes_hold sizes ≡ true }
     ensures { result ≡ walk_from sizes file.now 2048 0 }
 {
-    let mut p = 0;
-    while p < 2048 {
+    for p in 0..2048 {
         match next(file, sizes, p) {
             Next::Whole => {
                 if session_faults::position_fault(file, sizes, p) {
-                    return Reading::NotRead(Refusal::Position { position: p });
+                    return Err(Refusal::Position { position: p });
                 }
-                p += 1;
             }
             Next::Wrong => {
                 let byte = session_sizes::record_start(sizes, p);
-                return Reading::NotRead(Refusal::Record { byte });
+                return Err(Refusal::Record { byte });
             }
             Next::Ended => {
-                return Reading::SessionRead {
+                return Ok(SessionRead {
                     sizes,
                     positions: p,
-                };
+                });
             }
             Next::Cut => {
-                return Reading::SessionRead {
+                return Ok(SessionRead {
                     sizes,
                     positions: p,
-                };
+                });
             }
         }
     }
@@ -64,20 +62,20 @@ pub fn walk(file: &[u8], sizes: Sizes) -> Reading
 }
 
 // What stands behind 2,048 whole positions.
-fn at_most(file: &[u8], sizes: Sizes) -> Reading
+fn at_most(file: &[u8], sizes: Sizes) -> Result<SessionRead, Refusal>
     requires { sizes_hold sizes ≡ true }
     ensures { result ≡ walk_from sizes file.now 0 2048 }
 {
     match next(file, sizes, 2048) {
-        Next::Ended => Reading::SessionRead {
+        Next::Ended => Ok(SessionRead {
             sizes,
             positions: 2048,
-        },
+        }),
         Next::Wrong => {
             let byte = session_sizes::record_start(sizes, 2048);
-            Reading::NotRead(Refusal::Record { byte })
+            Err(Refusal::Record { byte })
         }
-        Next::Cut => Reading::NotRead(Refusal::Limits),
-        Next::Whole => Reading::NotRead(Refusal::Limits),
+        Next::Cut => Err(Refusal::Limits),
+        Next::Whole => Err(Refusal::Limits),
     }
 }

@@ -1,12 +1,11 @@
 -- Tests over the numbers below n, one number after the other: when one passes, and the least that does. Assumes nothing.
+use Rattle.std.specs.Prelude.{Some, None}
 use mathlib.Core.Path.{◌≡◌, refl, sym, ap, ◌∙◌, subst}
 use native.Mathlib.Nat.{zero-add}
 use mathlib.Core.Bool.{Bool, true, false, cond, true≢false}
 use Prim.Native.Nat.{ℕ, zero, suc, ◌+◌, ◌≤◌, ◌<◌}
 use native.Mathlib.Decide.{dec_lt}
 use native.Mathlib.Omega.{arith}
-use Rattle.call.specs.Contents.{Found, nothing, at}
-use Rattle.contents.specs.Faults.{index_or}
 use Rattle.session_file.specs.Below.{any_below, least_from}
 use Rattle.session_file.proofs.Below.{none→each, least_none→each}
 
@@ -23,47 +22,34 @@ module _ (test : ℕ → Bool) where
 
 module _ (test : ℕ → Bool) where
   -- none was found
-  pub least_none : (n i : ℕ) → ((k : ℕ) → i ≤ k → k < i + n → test k ≡ false) → least_from test n i ≡ nothing
+  pub least_none : (n i : ℕ) → ((k : ℕ) → i ≤ k → k < i + n → test k ≡ false) → least_from test n i ≡ None
   unfolding least_from
   least_none zero i h = refl
   least_none (suc n) i h =
-      ap (λ (b : Bool). cond b (at i) (least_from test n (suc i))) (h i (omega arith) (omega arith))
+      ap (λ (b : Bool). cond b (Some i) (least_from test n (suc i))) (h i (omega arith) (omega arith))
       ∙ least_none n (suc i) (λ k l m. h k (omega arith) (omega arith))
 
   -- that one was found
-  pub least_at : (n i p : ℕ) → i ≤ p → p < i + n → test p ≡ true → ((k : ℕ) → i ≤ k → k < p → test k ≡ false) → least_from test n i ≡ at p
+  pub least_at : (n i p : ℕ) → i ≤ p → p < i + n → test p ≡ true → ((k : ℕ) → i ≤ k → k < p → test k ≡ false) → least_from test n i ≡ Some p
   unfolding least_from
   least_at zero i p l m e h = absurd (omega arith)
   least_at (suc n) i p l m e h = go (λ a. least_at n (suc i) p a (omega arith) e (λ k b d. h k (omega arith) d)) (dec_lt i p)
     where
-      go : (i < p → least_from test n (suc i) ≡ at p) → Dec (i < p) → cond (test i) (at i) (least_from test n (suc i)) ≡ at p
-      go later (yes a) = ap (λ (b : Bool). cond b (at i) (least_from test n (suc i))) (h i (omega arith) a) ∙ later a
+      go : (i < p → least_from test n (suc i) ≡ Some p) → Dec (i < p) → cond (test i) (Some i) (least_from test n (suc i)) ≡ Some p
+      go later (yes a) = ap (λ (b : Bool). cond b (Some i) (least_from test n (suc i))) (h i (omega arith) a) ∙ later a
       go later (no a) =
           let s : i ≡ p = omega arith in
-          ap (λ (b : Bool). cond b (at i) (least_from test n (suc i))) (subst (λ (j : ℕ). test j ≡ true) (sym s) e) ∙ ap at s
+          ap (λ (b : Bool). cond b (Some i) (least_from test n (suc i))) (subst (λ (j : ℕ). test j ≡ true) (sym s) e) ∙ ap Some s
 
-  found_below : (n i p : ℕ) → least_from test n i ≡ at p → p < i + n
+  pub found_below : (n i p : ℕ) → least_from test n i ≡ Some p → p < i + n
   unfolding least_from
   found_below zero i p e = let z : ◌≡◌ {A = ℕ} 0 1 = cc in absurd (omega arith)
   found_below (suc n) i p e = by (found_below n (suc i) p) (test i) e
     where
-      by : (least_from test n (suc i) ≡ at p → p < suc i + n) → (b : Bool) → cond b (at i) (least_from test n (suc i)) ≡ at p → p < i + suc n
+      by : (least_from test n (suc i) ≡ Some p → p < suc i + n) → (b : Bool) → cond b (Some i) (least_from test n (suc i)) ≡ Some p → p < i + suc n
       by later true g = let s : i ≡ p = cc in omega arith
       by later false g = omega (arith, later g)
 
--- an index below n was found
-pub index_found : (f : Found) (n : ℕ) → index_or f n < n → f ≡ at (index_or f n)
-index_found nothing n h = absurd (omega arith)
-index_found (at k) n h = refl
-
--- no index below n was found: none passes
-module _ (test : ℕ → Bool) (n : ℕ) where
-  index_by : (f : Found) → least_from test n 0 ≡ f → n ≤ index_or f n → f ≡ nothing
-  index_by nothing e h = refl
-  index_by (at p) e h = absurd (omega (arith, found_below test n 0 p e))
-
-  pub index_none : n ≤ index_or (least_from test n 0) n → least_from test n 0 ≡ nothing
-  index_none h = index_by (least_from test n 0) refl h
-
-  pub index_clear : n ≤ index_or (least_from test n 0) n → (k : ℕ) → k < n → test k ≡ false
-  index_clear h k l = ap test (sym (zero-add k)) ∙ least_none→each test n 0 (index_none h) k l
+-- none was found: none passes
+pub none_clear : (test : ℕ → Bool) (n : ℕ) → least_from test n 0 ≡ None → (k : ℕ) → k < n → test k ≡ false
+none_clear test n e k l = ap test (sym (zero-add k)) ∙ least_none→each test n 0 e k l

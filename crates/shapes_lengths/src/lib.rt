@@ -3,51 +3,45 @@
 
 ghost use Rattle.std.specs.Prelude.{◌≡◌, true};
 ghost use Rattle.call.specs.Tensors.{Outputs};
-ghost use Rattle.call.specs.Lent.{inputs_given};
+ghost use Rattle.call.specs.Lent.{lent_given};
 ghost use Rattle.call.specs.Limits.{limits_hold, mask_shape_holds};
 ghost use Rattle.call.specs.Lengths.{inputs_fit, outputs_fit};
 ghost use Rattle.call.specs.Refusals.{lengths_verdict};
 ghost use Rattle.shapes.specs.Lent.{WrittenLengths};
 
-use call::{Call, Refusal, Verdict};
+use call::{Call, LentInputs, Refusal};
 
-fn inputs_fit(
-    call: Call,
-    query: &[f32],
-    key: &[f32],
-    value: &[f32],
-    boolmask: &[u8],
-    floatmask: &[f32],
-    pastkey: &[f32],
-    pastvalue: &[f32],
-    live: &[i64],
-) -> bool
+fn inputs_fit(call: Call, inputs: LentInputs<'_>) -> bool
     requires call_value { limits_hold call ≡ true }
     requires call_value_2 { mask_shape_holds call ≡ true }
-    ensures { result ≡ inputs_fit call (inputs_given query key value boolmask floatmask pastkey pastvalue live) }
+    ensures { result ≡ inputs_fit call (lent_given inputs) }
 {
-    if query.len() != shapes_sizes::product(call.batches, call.qheads, call.qlen, call.size) {
+    if inputs.query.len()
+        != shapes_sizes::product(call.batches, call.qheads, call.qlen, call.size)
+    {
         return false;
     }
-    if key.len() != shapes_sizes::product(call.batches, call.kvheads, call.klen, call.size) {
+    if inputs.key.len() != shapes_sizes::product(call.batches, call.kvheads, call.klen, call.size) {
         return false;
     }
-    if value.len() != shapes_sizes::product(call.batches, call.kvheads, call.klen, call.vsize) {
+    if inputs.value.len()
+        != shapes_sizes::product(call.batches, call.kvheads, call.klen, call.vsize)
+    {
         return false;
     }
-    if boolmask.len() != shapes_sizes::boolmask_length(call) {
+    if inputs.boolmask.len() != shapes_sizes::boolmask_length(call) {
         return false;
     }
-    if floatmask.len() != shapes_sizes::floatmask_length(call) {
+    if inputs.floatmask.len() != shapes_sizes::floatmask_length(call) {
         return false;
     }
-    if pastkey.len() != shapes_sizes::cached_length(call, call.past, call.size) {
+    if inputs.pastkey.len() != shapes_sizes::cached_length(call, call.past, call.size) {
         return false;
     }
-    if pastvalue.len() != shapes_sizes::cached_length(call, call.past, call.vsize) {
+    if inputs.pastvalue.len() != shapes_sizes::cached_length(call, call.past, call.vsize) {
         return false;
     }
-    if live.len() != shapes_sizes::live_length(call) {
+    if inputs.live.len() != shapes_sizes::live_length(call) {
         return false;
     }
     true
@@ -85,31 +79,22 @@ fn outputs_fit(
 
 pub fn lengths_verdict(
     call: Call,
-    query: &[f32],
-    key: &[f32],
-    value: &[f32],
-    boolmask: &[u8],
-    floatmask: &[f32],
-    pastkey: &[f32],
-    pastvalue: &[f32],
-    live: &[i64],
+    inputs: LentInputs<'_>,
     output: usize,
     presentkey: usize,
     presentvalue: usize,
     scores: usize,
     work: usize,
-) -> Verdict
+) -> Result<(), Refusal>
     requires call_value { limits_hold call ≡ true }
     requires call_value_2 { mask_shape_holds call ≡ true }
-    ensures { (y : Outputs) → WrittenLengths y output presentkey presentvalue scores work → result ≡ lengths_verdict call (inputs_given query key value boolmask floatmask pastkey pastvalue live) y }
+    ensures { (y : Outputs) → WrittenLengths y output presentkey presentvalue scores work → result ≡ lengths_verdict call (lent_given inputs) y }
 {
-    if !inputs_fit(
-        call, query, key, value, boolmask, floatmask, pastkey, pastvalue, live,
-    ) {
-        return Verdict::Refused(Refusal::InputLength);
+    if !inputs_fit(call, inputs) {
+        return Err(Refusal::InputLength);
     }
     if !outputs_fit(call, output, presentkey, presentvalue, scores, work) {
-        return Verdict::Refused(Refusal::OutputLength);
+        return Err(Refusal::OutputLength);
     }
-    Verdict::Accepted
+    Ok(())
 }

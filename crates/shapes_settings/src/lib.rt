@@ -4,7 +4,7 @@
 ghost use Rattle.std.specs.Prelude.{◌≡◌, ◌≤◌};
 ghost use Rattle.call.specs.Limits.{groups_allowed, rank_allowed, causal_allowed, mode_allowed, scale_allowed, cap_allowed};
 
-use call::{Scale, ScoreMode};
+use call::Scale;
 
 // Hq is a multiple of Hkv.
 pub fn groups_allowed(qheads: usize, kvheads: usize) -> bool
@@ -26,13 +26,10 @@ pub fn causal_allowed(causal: usize) -> bool
     causal <= 1
 }
 
-pub fn mode_allowed(mode: ScoreMode) -> bool
+pub fn mode_allowed(mode: Option<usize>) -> bool
     ensures { result ≡ mode_allowed mode }
 {
-    match mode {
-        ScoreMode::NoScores => true,
-        ScoreMode::Mode(m) => m <= 3,
-    }
+    mode.is_none_or(|m| m <= 3)
 }
 
 // A given scale is above 0 and at most 1,024; both tests fail of a NaN.
@@ -41,12 +38,7 @@ pub fn scale_allowed(scale: Scale) -> bool
 {
     match scale {
         Scale::Absent => true,
-        Scale::Given(x) => {
-            if 0.0 < x {
-                return x <= 1024.0;
-            }
-            false
-        }
+        Scale::Given(x) => 0.0 < x && x <= 1024.0,
     }
 }
 
@@ -54,8 +46,5 @@ pub fn scale_allowed(scale: Scale) -> bool
 pub fn cap_allowed(cap: f32) -> bool
     ensures { result ≡ cap_allowed cap }
 {
-    if 0.0 <= cap {
-        return cap <= 65536.0;
-    }
-    false
+    (0.0..=65536.0).contains(&cap)
 }

@@ -10,26 +10,14 @@ use call::Form;
 pub fn is_within(low: usize, high: usize, x: usize) -> bool
     ensures { result ≡ within low high x }
 {
-    if x < low {
-        return false;
-    }
-    if high < x {
-        return false;
-    }
-    true
+    (low..=high).contains(&x)
 }
 
 // x is one of two numbers.
 pub fn is_either(a: usize, b: usize, x: usize) -> bool
     ensures { result ≡ (eqb x a || eqb x b) }
 {
-    if x == a {
-        return true;
-    }
-    if x == b {
-        return true;
-    }
-    false
+    x == a || x == b
 }
 
 // P is 0 outside the cached form.
@@ -37,8 +25,7 @@ pub fn past_allowed(form: Form, past: usize) -> bool
     ensures { result ≡ past_allowed form past }
 {
     match form {
-        Form::Plain => past == 0,
         Form::Cached => true,
-        Form::Counted => past == 0,
+        Form::Plain | Form::Counted => past == 0,
     }
 }

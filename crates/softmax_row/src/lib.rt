@@ -12,12 +12,10 @@ fn largest(row: &[f32]) -> f32
     ensures { result ≡ largest_row_of row.now }
 {
     let mut m = -f32::from_bits(0x7f800000);
-    let mut i = 0;
-    while i < row.len() {
-        if m < row[i] {
-            m = row[i];
+    for &x in row {
+        if m < x {
+            m = x;
         }
-        i += 1;
     }
     m
 }
@@ -27,10 +25,8 @@ fn total(row: &[f32]) -> f32
     ensures { result ≡ total_row_of row.now }
 {
     let mut sum = 0.0;
-    let mut i = 0;
-    while i < row.len() {
-        sum = sum + row[i];
-        i += 1;
+    for &x in row {
+        sum += x;
     }
     sum
 }
@@ -39,10 +35,8 @@ fn total(row: &[f32]) -> f32
 fn divide_row(row: &mut [f32], x: f32)
     ensures { row.new ≡ map (λ e. div binary32 e x) row.old }
 {
-    let mut i = 0;
-    while i < row.len() {
-        row[i] = row[i] / x;
-        i += 1;
+    for e in row.iter_mut() {
+        *e /= x;
     }
 }
 

@@ -9,10 +9,9 @@ fn accumulate(out: &mut [f32], weight: f32, value: &[f32])
     requires { length value.now ≡ length out.old }
     ensures { out.new ≡ accumulated_row_of weight value.now out.old }
 {
-    let mut c = 0;
-    while c < out.len() {
-        out[c] = out[c] + weight * value[c];
-        c += 1;
+    // `out.iter_mut().zip(value)` was tried: over an adapter of `iter_mut` the proof does not learn what stands in the row afterwards.
+    for (c, o) in out.iter_mut().enumerate() {
+        *o += weight * value[c];
     }
 }
 
@@ -21,11 +20,8 @@ pub fn weighted_rows(weights: &[f32], values: &[f32], stride: usize, out: &mut [
     requires { (j : ℕ) → j < length weights.now → j * stride + length out.old ≤ length values.now }
     ensures { out.new ≡ weighted_rows_of weights.now values.now stride out.old }
 {
-    let mut j = 0;
-    while j < weights.len() {
+    for (j, &weight) in weights.iter().enumerate() {
         let at = j * stride;
-        let e = at + out.len();
-        accumulate(out, weights[j], &values[at..e]);
-        j += 1;
+        accumulate(out, weight, &values[at..at + out.len()]);
     }
 }

@@ -6,7 +6,7 @@ ghost use Rattle.attention.specs.StepLent.{step_given, step_before, step_after};
 ghost use Rattle.attention.specs.Outcomes.{outcome_of};
 ghost use Rattle.attention.specs.Entries.{step_of};
 
-use call::{Answer, Call, Refusal};
+use call::{Call, Done, LentInputs, Refusal};
 
 // A step. A record of the profile is answered as the general entry answers it without masks, live counts and scores; any other is refusal 10, and leaves every tensor as it came in.
 pub fn step<'a>(
@@ -20,26 +20,26 @@ pub fn step<'a>(
     presentkey: &mut [f32],
     presentvalue: &mut [f32],
     work: &mut [f32],
-) -> Answer
+) -> Result<Done, Refusal>
     ensures { outcome_of result (step_after output presentkey presentvalue work) ≡ step_of call (step_given query key value pastkey pastvalue) (step_before output presentkey presentvalue work) }
 {
     if !step_profile::profile_holds(call) {
-        return Answer::NotDone(Refusal::Profile);
+        return Err(Refusal::Profile);
     }
-    let bytes: [u8; 0] = [0; 0];
-    let cells: [f32; 0] = [0.0; 0];
-    let live: [i64; 0] = [0; 0];
-    let mut scores: [f32; 0] = [0.0; 0];
-    entry::attention(
-        call,
+    let inputs = LentInputs {
         query,
         key,
         value,
-        &bytes,
-        &cells,
+        boolmask: &[],
+        floatmask: &[],
         pastkey,
         pastvalue,
-        &live,
+        live: &[],
+    };
+    let mut scores: [f32; 0] = [0.0; 0];
+    entry::attention(
+        call,
+        inputs,
         output,
         presentkey,
         presentvalue,

@@ -1,4 +1,5 @@
 -- The default-scale table obeys its rule at each head size from 1 to 256, by one computed test over the whole table, the rule leaves no other choice, and each scale is above 0 and at most 1. Assumes nothing.
+use Rattle.std.specs.Prelude.{Some, None}
 use mathlib.Core.Path.{◌≡◌, sym, ap, ◌∙◌, subst}
 use mathlib.Core.Logic.{◌⊎◌, inl, inr}
 use Prim.Native.Nat.{ℕ, suc, ◌+◌, ◌-◌, ◌*◌, ◌/◌, ◌%◌, ◌^◌, ◌≤◌, ◌<◌}
@@ -15,7 +16,6 @@ use lib.Ieee.Exact.{HasValue}
 use lib.Ieee.Fits.{and_i, and_l, and_r}
 use lib.Ieee.Bits.{is_true, is_false}
 use Rattle.bool_laws.proofs.Tests.{three, four}
-use Rattle.tables.specs.declared.DefaultScale.TheVariants.{ScaleIs, NoScale}
 use Rattle.float_laws.specs.Zero.{plus_zero}
 use Rattle.tables.specs.Scale.{ScaleRule, scale_bits, default_scale_of}
 use Rattle.tables.proofs.Every.{every, at, is_fraction, fraction→value, odd_order}
@@ -124,16 +124,16 @@ scale_only D m x n y a b p q =
 
 -- ---- where there is a scale, and where there is none
 
-pub scale_where_lem : (D : ℕ) → 1 ≤ D → D ≤ 256 → default_scale_of D ≡ ScaleIs (of_bits binary32 (get_or scale_bits (D - 1) 0))
+pub scale_where_lem : (D : ℕ) → 1 ≤ D → D ≤ 256 → default_scale_of D ≡ Some (of_bits binary32 (get_or scale_bits (D - 1) 0))
 unfolding default_scale_of
 scale_where_lem D a b =
-    ap (λ (t : Bool). cond t (ScaleIs (of_bits binary32 (get_or scale_bits (D - 1) 0))) NoScale)
+    ap (λ (t : Bool). cond t (Some (of_bits binary32 (get_or scale_bits (D - 1) 0))) None)
     (is_true (leb 1 D && leb D 256) (and_i (leb 1 D) (leb D 256) (le→leb 1 D a) (le→leb D 256 b)))
 
-pub no_scale_where : (D : ℕ) → (D < 1) ⊎ (256 < D) → default_scale_of D ≡ NoScale
+pub no_scale_where : (D : ℕ) → (D < 1) ⊎ (256 < D) → default_scale_of D ≡ None
 unfolding default_scale_of
 no_scale_where D h =
-    ap (λ (t : Bool). cond t (ScaleIs (of_bits binary32 (get_or scale_bits (D - 1) 0))) NoScale)
+    ap (λ (t : Bool). cond t (Some (of_bits binary32 (get_or scale_bits (D - 1) 0))) None)
     (is_false (leb 1 D && leb D 256) (not_T (leb 1 D && leb D 256) (λ t. outside h (leb→le 1 D (and_l (leb 1 D) (leb D 256) t)) (leb→le D 256 (and_r (leb 1 D) (leb D 256) t)))))
   where
     outside : (D < 1) ⊎ (256 < D) → 1 ≤ D → D ≤ 256 → ⊥
@@ -141,7 +141,7 @@ no_scale_where D h =
     outside (inr h) a b = omega arith
 
 -- the default scale of a head size from 1 to 256 is m * 2 ^ -x, with the m and the x of the rule
-pub default_scale : (D : ℕ) → 1 ≤ D → D ≤ 256 → (s : Float) × (m : ℕ) × (x : ℕ) × (default_scale_of D ≡ ScaleIs s) × HasValue s false m (2 ^ x) × ScaleRule D m x
+pub default_scale : (D : ℕ) → 1 ≤ D → D ≤ 256 → (s : Float) × (m : ℕ) × (x : ℕ) × (default_scale_of D ≡ Some s) × HasValue s false m (2 ^ x) × ScaleRule D m x
 default_scale D a b =
     let i = D - 1 in
     let r = scale_rule i (before D a b) in
@@ -166,7 +166,7 @@ unfolding between scale_bits of_bits lt le
 all_between = tt
 
 -- the default scale of a head size from 1 to 256 is above 0 and at most 1
-pub default_scale_bounds : (D : ℕ) → 1 ≤ D → D ≤ 256 → (s : Float) × (default_scale_of D ≡ ScaleIs s) × T (lt plus_zero s) × T (le s one)
+pub default_scale_bounds : (D : ℕ) → 1 ≤ D → D ≤ 256 → (s : Float) × (default_scale_of D ≡ Some s) × T (lt plus_zero s) × T (le s one)
 unfolding between
 default_scale_bounds D a b =
     let s = of_bits binary32 (get_or scale_bits (D - 1) 0) in

@@ -1,10 +1,8 @@
 -- The power table: P[f] is the f32 nearest to 2 ^ -(f / 256), for f below 256, held as bit patterns.
 -- `PowerRule` is the table's rule; that each entry obeys it, and that no other number does, is proved in proofs/Power.antt. Definitions only.
-use Rattle.std.specs.Prelude.{List, [], ◌∷◌, ℕ, ◌+◌, ◌-◌, ◌*◌, ◌^◌, ◌≤◌, ◌<◌, cond, ltb, get_or, Float}
+use Rattle.std.specs.Prelude.{List, [], ◌∷◌, ℕ, ◌+◌, ◌-◌, ◌*◌, ◌^◌, ◌≤◌, ◌<◌, cond, ltb, get_or, Float, Option, Some, None}
 use Rattle.std.specs.Float.{binary32}
 use Rattle.std.specs.Float.Ieee.{of_bits}
-use Rattle.tables.specs.declared.PowerEntry.{PowerEntry}
-use Rattle.tables.specs.declared.PowerEntry.TheVariants.{Entry, NoEntry}
 
 -- m * 2 ^ -24 is the f32 nearest to 2 ^ -(f / 256): m is whole, from 2 ^ 23 to 2 ^ 24, and (2m - 1) ^ 256 < 2 ^ (6400 - f) < (2m + 1) ^ 256
 pub record PowerRule (f m : ℕ) : Type 0 where
@@ -53,6 +51,6 @@ unfoldable pub power_of : ℕ → Float
 unfolding power_bits
 power_of f = of_bits binary32 (get_or power_bits f 0)
 
-unfoldable pub power_entry_of : ℕ → PowerEntry
+unfoldable pub power_entry_of : ℕ → Option Float
 unfolding power_of
-power_entry_of f = cond (ltb f 256) (Entry (power_of f)) NoEntry
+power_entry_of f = cond (ltb f 256) (Some (power_of f)) None

@@ -1,10 +1,8 @@
 -- The default scale of a head size D from 1 to 256: the f32 nearest to 1 / √D, held as bit patterns, the first for D = 1.
 -- `ScaleRule` is the table's rule; that each entry obeys it, and that no other number does, is proved in proofs/Scale.antt. Definitions only.
-use Rattle.std.specs.Prelude.{List, [], ◌∷◌, ℕ, ◌+◌, ◌-◌, ◌*◌, ◌^◌, ◌≤◌, ◌<◌, ◌&&◌, cond, leb, get_or}
+use Rattle.std.specs.Prelude.{List, [], ◌∷◌, ℕ, ◌+◌, ◌-◌, ◌*◌, ◌^◌, ◌≤◌, ◌<◌, ◌&&◌, cond, leb, get_or, Option, Some, None, Float}
 use Rattle.std.specs.Float.{binary32}
 use Rattle.std.specs.Float.Ieee.{of_bits}
-use Rattle.tables.specs.declared.DefaultScale.{DefaultScale}
-use Rattle.tables.specs.declared.DefaultScale.TheVariants.{ScaleIs, NoScale}
 
 -- m * 2 ^ -x is the f32 nearest to 1 / √D: m is whole, from 2 ^ 23 to below 2 ^ 24, and (2m - 1)² * D < 2 ^ (2x + 2) < (2m + 1)² * D
 pub record ScaleRule (D m x : ℕ) : Type 0 where
@@ -48,6 +46,6 @@ scale_bits =
     0x3d83ec5c ∷ 0x3d83a682 ∷ 0x3d836117 ∷ 0x3d831c1a ∷ 0x3d82d788 ∷ 0x3d829362 ∷ 0x3d824fa6 ∷ 0x3d820c52 ∷
     0x3d81c967 ∷ 0x3d8186e2 ∷ 0x3d8144c4 ∷ 0x3d81030a ∷ 0x3d80c1b4 ∷ 0x3d8080c1 ∷ 0x3d804030 ∷ 0x3d800000 ∷ []
 
-unfoldable pub default_scale_of : ℕ → DefaultScale
+unfoldable pub default_scale_of : ℕ → Option Float
 unfolding scale_bits
-default_scale_of D = cond (leb 1 D && leb D 256) (ScaleIs (of_bits binary32 (get_or scale_bits (D - 1) 0))) NoScale
+default_scale_of D = cond (leb 1 D && leb D 256) (Some (of_bits binary32 (get_or scale_bits (D - 1) 0))) None

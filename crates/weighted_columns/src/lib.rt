@@ -21,16 +21,16 @@ pub fn weighted_columns(weights: &[f32], values: &[f32], stride: usize, out: &mu
     requires { (j : ℕ) → j < length weights.now → j * stride + length out.old ≤ length values.now }
     ensures { out.new ≡ weighted_rows_of weights.now values.now stride out.old }
 {
-    if weights.len() == 0 {
+    if weights.is_empty() {
         return;
     }
     let n = out.len();
-    let mut c = 0;
-    while 16 <= n - c {
-        let e = c + 16;
-        sixteen_columns(weights, &values[c..], stride, &mut out[c..e]);
-        c = e;
+    // By index: over `chunks_exact_mut` the proof does not learn what stands in the row afterwards.
+    for block in 0..n / 16 {
+        let c = block * 16;
+        sixteen_columns(weights, &values[c..], stride, &mut out[c..c + 16]);
     }
+    let c = n / 16 * 16;
     if c < n {
         softmax_sum::weighted_rows(weights, &values[c..], stride, &mut out[c..]);
     }

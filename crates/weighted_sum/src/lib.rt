@@ -9,16 +9,8 @@ pub fn weighted_rows(weights: &[f32], values: &[f32], stride: usize, out: &mut [
     requires { (j : ℕ) → j < length weights.now → j * stride + length out.old ≤ length values.now }
     ensures { out.new ≡ weighted_rows_of weights.now values.now stride out.old }
 {
-    let n = weights.len();
-    let mut j = 0;
-    while 32 <= n - j {
-        let e = j + 32;
-        let at = j * stride;
-        weighted_columns::weighted_columns(&weights[j..e], &values[at..], stride, out);
-        j = e;
-    }
-    if j < n {
-        let at = j * stride;
-        weighted_columns::weighted_columns(&weights[j..], &values[at..], stride, out);
+    for (block, given) in weights.chunks(32).enumerate() {
+        let at = block * 32 * stride;
+        weighted_columns::weighted_columns(given, &values[at..], stride, out);
     }
 }

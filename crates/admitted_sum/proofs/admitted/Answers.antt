@@ -1,4 +1,6 @@
 -- `admitted_sum::admitted` meets its contract. The code's comparison of a cell with minus infinity is the test for a hidden one.
+use Rattle.std.proofs.Common.{◌+◌}
+use Rattle.attention.specs.Admission.{repeated}
 use mathlib.Core.Path.{◌≡◌, refl}
 use mathlib.Core.Bool.{true, false, not}
 use lib.Ieee.{Float, nan, inf, fin, neg, ne, of_bits, nan_bits}
@@ -19,4 +21,4 @@ ne_hidden (fin s m e) = refl
 
 pub returns-in-FloatMask : goal.returns-in-FloatMask
 unfolding of_bits neg
-returns-in-FloatMask c = let s = c.args in rw c.in-FloatMask.is (ne_hidden (element_of s.cells.now s.at))
+returns-in-FloatMask c = let m = c.args.mask in rw (c.in-FloatMask.is, c.cell_at-in-FloatMask.ensures) (ne_hidden (element_of m.cells.now (m.at + repeated m.width c.args.j)))

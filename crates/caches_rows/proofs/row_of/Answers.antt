@@ -14,15 +14,14 @@ pub rows_from-rows-requires : goal.rows_from-rows-requires
 rows_from-rows-requires c = c.requires
 
 -- the row is inside the part that starts with it
-inside : (c : After-rows_from-rows) → c.args.size ≤ length c.rows_from-rows.result.now
+inside : (c : After-rows_from-rows) → c.args.cache.size ≤ length c.rows_from-rows.result.now
 inside c =
-    let s = c in
-    let a = s.args in
-    subst (λ (r : List Float). a.size ≤ length r) (sym c.rows_from-rows.ensures) (row_inside a.call a.past.now a.incoming.now a.size a.b a.g a.j s.requires)
+    let a = c.args in
+    subst (λ (r : List Float). a.cache.size ≤ length r) (sym c.rows_from-rows.ensures) (row_inside a.call a.cache.past.now a.cache.incoming.now a.cache.size a.cache.b a.cache.g a.j c.requires)
 
 pub slice_bounds-result-end : goal.slice_bounds-result-end
-slice_bounds-result-end c = sym (length-take-le c.args.size c.rows_from-rows.result.now (inside (goal.at.slice_bounds-result-end c).After-rows_from-rows))
+slice_bounds-result-end c = sym (length-take-le c.args.cache.size c.rows_from-rows.result.now (inside (goal.at.slice_bounds-result-end c).After-rows_from-rows))
 
 pub returns : goal.returns
 unfolding position_row
-returns c = ap (take c.args.size) c.rows_from-rows.ensures
+returns c = ap (take c.args.cache.size) c.rows_from-rows.ensures

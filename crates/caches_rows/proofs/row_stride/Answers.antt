@@ -17,9 +17,8 @@ returns-then-call-eq4 c = rw (le-ltb _ _ c.if-j-call.false, eq-eqb c.args.call.r
 
 pub overflow_mul-result : goal.overflow_mul-result
 overflow_mul-result c =
-    let s = c in
-    let l = limits→facts s.args.call s.requires.call_value in
-    let p : s.args.call.kvheads * s.args.size ≤ 32 * 256 = mul-le-mul {n₂ = 32} {m₂ = 256} l.kvheads_most s.requires.size_bound in
+    let l = limits→facts c.args.call c.requires.call_value in
+    let p : c.args.call.kvheads * c.args.size ≤ 32 * 256 = mul-le-mul {n₂ = 32} {m₂ = 256} l.kvheads_most c.requires.size_bound in
     omega arith
 
 pub returns : goal.returns

@@ -18,14 +18,12 @@ part-is at n l e = take_all (length l - at) (drop at l) (omega (arith, length-dr
 
 pub row_start-at-requires : goal.row_start-at-requires
 row_start-at-requires c =
-    let s = c in
-    past_row s.args.call (length s.args.past.now) (length s.args.incoming.now) s.args.size s.args.b s.args.g s.args.j s.requires c.if-j-before.true
+    past_row c.args.call (length c.args.cache.past.now) (length c.args.cache.incoming.now) c.args.cache.size c.args.cache.b c.args.cache.g c.args.j c.requires c.if-j-before.true
 
 -- the row starts inside the past cache
-in-past : (c : After-row_start-at) → let s = c in c.row_start-at.result + s.args.size ≤ length s.args.past.now
+in-past : (c : After-row_start-at) → c.row_start-at.result + c.args.cache.size ≤ length c.args.cache.past.now
 in-past c =
-    let s = c in
-    let e = past_row_end s.args.call (length s.args.past.now) (length s.args.incoming.now) s.args.size s.args.b s.args.g s.args.j s.requires c.if-j-before.true in
+    let e = past_row_end c.args.call (length c.args.cache.past.now) (length c.args.cache.incoming.now) c.args.cache.size c.args.cache.b c.args.cache.g c.args.j c.requires c.if-j-before.true in
     omega (arith, c.row_start-at.ensures)
 
 pub offset_bounds-past-at : goal.offset_bounds-past-at
@@ -40,20 +38,17 @@ slice_bounds-result-start c = omega (arith, in-past (goal.at.slice_bounds-result
 pub returns-then-j-before : goal.returns-then-j-before
 unfolding rows_from
 returns-then-j-before c =
-    let r = c in
-    let s = r.args in
-    rw (lt-ltb s.j s.call.past r.if-j-before.true) (part-is r.row_start-at.result _ s.past.now r.row_start-at.ensures)
+    let s = c.args in
+    rw (lt-ltb s.j s.call.past c.if-j-before.true) (part-is c.row_start-at.result _ s.cache.past.now c.row_start-at.ensures)
 
 pub row_start-at-requires-2 : goal.row_start-at-requires-2
 row_start-at-requires-2 c =
-    let s = c in
-    incoming_row s.args.call (length s.args.past.now) (length s.args.incoming.now) s.args.size s.args.b s.args.g s.args.j s.requires c.if-j-before.false
+    incoming_row c.args.call (length c.args.cache.past.now) (length c.args.cache.incoming.now) c.args.cache.size c.args.cache.b c.args.cache.g c.args.j c.requires c.if-j-before.false
 
 -- the row starts inside the incoming tensor
-in-incoming : (c : After-row_start-at-2) → let s = c in c.row_start-at-2.result + s.args.size ≤ length s.args.incoming.now
+in-incoming : (c : After-row_start-at-2) → c.row_start-at-2.result + c.args.cache.size ≤ length c.args.cache.incoming.now
 in-incoming c =
-    let s = c in
-    let e = incoming_row_end s.args.call (length s.args.past.now) (length s.args.incoming.now) s.args.size s.args.b s.args.g s.args.j s.requires c.if-j-before.false in
+    let e = incoming_row_end c.args.call (length c.args.cache.past.now) (length c.args.cache.incoming.now) c.args.cache.size c.args.cache.b c.args.cache.g c.args.j c.requires c.if-j-before.false in
     rw c.row_start-at-2.ensures e
 
 pub offset_bounds-incoming-at : goal.offset_bounds-incoming-at
@@ -68,6 +63,5 @@ slice_bounds-result-start-2 c = omega (arith, in-incoming (goal.at.slice_bounds-
 pub returns : goal.returns
 unfolding rows_from
 returns c =
-    let r = c in
-    let s = r.args in
-    rw (le-ltb s.j s.call.past r.if-j-before.false) (part-is r.row_start-at-2.result _ s.incoming.now r.row_start-at-2.ensures)
+    let s = c.args in
+    rw (le-ltb s.j s.call.past c.if-j-before.false) (part-is c.row_start-at-2.result _ s.cache.incoming.now c.row_start-at-2.ensures)

@@ -1,11 +1,8 @@
 -- `contents_incoming::first_counted_fault` meets its contract, rank by rank. Assumes nothing.
-use mathlib.Core.Path.{sym, ap, ◌∙◌}
+use mathlib.Core.Path.{sym, ◌∙◌}
 use native.Mathlib.Nat.{mul-pos, mul-le-mul}
 use native.Mathlib.Omega.{arith}
-use lib.ListN.{length}
-use Rattle.call.specs.Contents.{Found}
 use Rattle.call.proofs.Facts.{limits→facts}
-use Rattle.contents.specs.Faults.{index_or}
 use Rattle.contents.proofs.Groups.{search_rank4, search_rank3}
 use Rattle.contents_incoming.proofs.first_counted_fault.Goals as goal
 
@@ -19,7 +16,7 @@ returns-then-call-eq4 c =
     let f = limits→facts _ p.call_value in
     let t = s.tensor.now in
     c.first_live_fault.ensures
-    ∙ ap (λ (r : Found). index_or r (length t)) (sym (search_rank4 s.call s.live.now s.size t p.past_value f.klen_some p.le_size.0 c.if-call-eq4.true))
+    ∙ (sym (search_rank4 s.call s.live.now s.size t p.past_value f.klen_some p.le_size.0 c.if-call-eq4.true))
 
 pub overflow_mul-call : goal.overflow_mul-call
 overflow_mul-call c =
@@ -40,4 +37,4 @@ returns c =
     let f = limits→facts _ p.call_value in
     let t = s.tensor.now in
     c.first_live_fault-2.ensures
-    ∙ ap (λ (r : Found). index_or r (length t)) (sym (search_rank3 s.call s.live.now s.size t p.past_value f.klen_some p.le_size.0 c.if-call-eq4.false f.kvheads_some))
+    ∙ (sym (search_rank3 s.call s.live.now s.size t p.past_value f.klen_some p.le_size.0 c.if-call-eq4.false f.kvheads_some))

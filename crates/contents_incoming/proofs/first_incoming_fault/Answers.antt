@@ -1,9 +1,6 @@
 -- `contents_incoming::first_incoming_fault` meets its contract, form by form. Assumes nothing.
-use mathlib.Core.Path.{sym, ap, ◌∙◌}
-use lib.ListN.{length}
-use Rattle.call.specs.Contents.{Found}
+use mathlib.Core.Path.{sym, ◌∙◌}
 use Rattle.call.proofs.Facts.{limits→facts}
-use Rattle.contents.specs.Faults.{index_or}
 use Rattle.contents.proofs.Groups.{search_plain, search_cached}
 use Rattle.contents.proofs.Counted.{no_past, live_most}
 use Rattle.contents_incoming.proofs.first_incoming_fault.Goals as goal
@@ -27,11 +24,11 @@ returns-in-Plain c =
     let s = c.args in
     let t = s.tensor.now in
     c.first_fault_by_blocks.ensures
-    ∙ ap (λ (r : Found). index_or r (length t)) (sym (search_plain s.call s.live.now s.size t (limits→facts _ c.requires.call_value).klen_some c.in-Plain.is))
+    ∙ (sym (search_plain s.call s.live.now s.size t (limits→facts _ c.requires.call_value).klen_some c.in-Plain.is))
 
 pub returns-in-Cached : goal.returns-in-Cached
 returns-in-Cached c =
     let s = c.args in
     let t = s.tensor.now in
     c.first_fault_by_blocks-in-Cached.ensures
-    ∙ ap (λ (r : Found). index_or r (length t)) (sym (search_cached s.call s.live.now s.size t (limits→facts _ c.requires.call_value).klen_some c.in-Cached.is))
+    ∙ (sym (search_cached s.call s.live.now s.size t (limits→facts _ c.requires.call_value).klen_some c.in-Cached.is))

@@ -2,7 +2,7 @@
 use mathlib.Core.Path.{◌≡◌}
 use mathlib.Core.Bool.{false, ◌&&◌}
 use mathlib.Core.List.{List}
-use Prim.Native.Nat.{ℕ, ◌*◌, ◌-◌, ◌≤◌, ◌<◌}
+use Prim.Native.Nat.{ℕ, ◌*◌, ◌<◌}
 use lib.IntN.{ℤ}
 use lib.ListN.{get_or}
 use lib.Ieee.{Float, nan}
@@ -16,7 +16,4 @@ abbrev pub Clear : Call → List ℤ → ℕ → ℕ → List Float → ℕ → 
 Clear call live heads unit tensor k = (in_prefix call live heads unit k && element_fault (get_or tensor k nan)) ≡ false
 
 abbrev pub invariant-loop-group : goal.invariant-loop-group
-invariant-loop-group l = (l.group ≤ l.groups) × ((k : ℕ) → k < l.group * l.span → Clear l.call l.live l.heads l.unit l.tensor k)
-
-abbrev pub decreases-loop-group : goal.decreases-loop-group
-decreases-loop-group l = l.groups - l.group
+invariant-loop-group l = (k : ℕ) → k < l.group * l.span → Clear l.call l.live l.heads l.unit l.tensor k

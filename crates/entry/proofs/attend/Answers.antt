@@ -1,28 +1,26 @@
 -- `entry::attend` meets its contract: the scale, and then every head. Assumes nothing.
 use native.Mathlib.Omega.{arith}
-use Rattle.call.specs.declared.Answer.TheVariants.{Done}
 use Rattle.call.specs.Limits.{total_of}
-use Rattle.call.specs.Tensors.{Inputs, Outputs, inputs_of, outputs_of}
+use Rattle.call.specs.Tensors.{Outputs, outputs_of}
+use Rattle.call.specs.Lent.{lent_now}
 use Rattle.call.proofs.Accepted.{Accepts, verdict→accepts}
 use Rattle.call.proofs.Facts.{InLimits, InputLengths, OutputLengths, limits→facts, fit→lengths, outputs→lengths}
 use Rattle.attention.specs.Outcomes.{outcome_of, accepted_of}
 use Rattle.entry.proofs.attend.Goals as goal
 use Rattle.entry.proofs.attend.Goals.{Start}
-
-abbrev inputs : Start → Inputs
-inputs c = let s = c.args in inputs_of s.query.now s.key.now s.value.now s.boolmask.now s.floatmask.now s.pastkey.now s.pastvalue.now s.live.now
+use Rattle.call.specs.Answers.{done_of}
 
 abbrev outputs : Start → Outputs
 outputs c = let s = c.args in outputs_of s.output.now s.presentkey.now s.presentvalue.now s.scores.now s.work.now
 
-accepts : (c : Start) → Accepts c.args.call (inputs c) (outputs c)
-accepts c = verdict→accepts c.args.call (inputs c) (outputs c) c.requires
+accepts : (c : Start) → Accepts c.args.call (lent_now c.args.inputs) (outputs c)
+accepts c = verdict→accepts c.args.call (lent_now c.args.inputs) (outputs c) c.requires
 
 limits : (c : Start) → InLimits c.args.call
 limits c = limits→facts c.args.call (accepts c).limits
 
-read_long : (c : Start) → InputLengths c.args.call (inputs c)
-read_long c = fit→lengths c.args.call (inputs c) (accepts c).inputs
+read_long : (c : Start) → InputLengths c.args.call (lent_now c.args.inputs)
+read_long c = fit→lengths c.args.call (lent_now c.args.inputs) (accepts c).inputs
 
 written_long : (c : Start) → OutputLengths c.args.call (outputs c)
 written_long c = outputs→lengths c.args.call (outputs c) (accepts c).outputs
@@ -45,4 +43,4 @@ unfolding accepted_of
 returns c =
     let s = c.args in
     let d = c.all_heads-masked.ensures in
-    λ i. outcome_of (Done (total_of s.call) (d.told i)) (outputs_of (d.outputs i) (d.keys i) (d.values i) (d.shown i) (d.weights i))
+    λ i. outcome_of (done_of (total_of s.call) (d.told i)) (outputs_of (d.outputs i) (d.keys i) (d.values i) (d.shown i) (d.weights i))

@@ -1,19 +1,10 @@
 -- `exponential_powers::times_powers` meets its contract. The loop's invariant: the elements before i are multiplied, the others are as they were. Assumes nothing.
 use mathlib.Core.Path.{◌≡◌}
-use Prim.Native.Nat.{ℕ, ◌-◌, ◌≤◌}
-use mathlib.Core.List.{List}
-use lib.ListN.{length, get_or}
-use lib.Ieee.{Float}
-use Rattle.tensor_laws.proofs.InPlace.{indexed_to}
+use Prim.Native.Nat.{ℕ, ◌<◌, ◌≤◌}
+use lib.ListN.{get_or}
+use lib.Ieee.{nan}
 use Rattle.exponential.proofs.Blocks.{times_entry}
 use Rattle.exponential_powers.proofs.times_powers.Given as goal
 
--- what element k becomes
-abbrev pub each_of : List ℕ → ℕ → Float → Float
-each_of wholes k p = times_entry (get_or wholes k 0) p
-
 abbrev pub invariant-loop-i : goal.invariant-loop-i
-invariant-loop-i l = (l.i ≤ length l.initial.row) × (l.row ≡ indexed_to (each_of l.wholes) l.i l.initial.row)
-
-abbrev pub decreases-loop-i : goal.decreases-loop-i
-decreases-loop-i l = length l.initial.row - l.i
+invariant-loop-i l = ((k : ℕ) → k < l.i → get_or l.row k nan ≡ times_entry (get_or l.wholes k 0) (get_or l.initial.row k nan)) × ((k : ℕ) → l.i ≤ k → get_or l.row k nan ≡ get_or l.initial.row k nan)

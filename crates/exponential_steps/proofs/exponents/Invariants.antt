@@ -1,18 +1,8 @@
--- `exponential_steps::exponents` meets its contract. The loop's invariant: the elements before i are mapped, the others are as they were. Assumes nothing.
-use mathlib.Core.Path.{◌≡◌}
-use Prim.Native.Nat.{◌≤◌, ◌-◌}
-use lib.ListN.{length}
-use lib.Ieee.{Float, binary32, sub}
-use Rattle.tensor_laws.proofs.InPlace.{mapped_to}
+-- `exponential_steps::exponents` meets its contract. The loop's invariant: the elements before the index are mapped, the others are as they were. Assumes nothing.
+use Rattle.std.proofs.Common.{◌≡◌, ℕ, ◌≤◌, map, take, get_or}
+use lib.Ieee.{binary32, sub, nan}
 use Rattle.exponential.specs.Blocks.{exponent_of}
 use Rattle.exponential_steps.proofs.exponents.Given as goal
 
--- what an element becomes
-abbrev pub each_of : Float → Float → Float
-each_of largest s = exponent_of (sub binary32 largest s)
-
-abbrev pub invariant-loop-i : goal.invariant-loop-i
-invariant-loop-i l = (l.i ≤ length l.initial.row) × (l.row ≡ mapped_to (each_of l.largest) l.i l.initial.row)
-
-abbrev pub decreases-loop-i : goal.decreases-loop-i
-decreases-loop-i l = length l.initial.row - l.i
+abbrev pub invariant-loop-x : goal.invariant-loop-x
+invariant-loop-x l = (take l.x-index l.row ≡ map (λ s. exponent_of (sub binary32 l.largest s)) (take l.x-index l.initial.row)) × ((k : ℕ) → l.x-index ≤ k → get_or l.row k nan ≡ get_or l.initial.row k nan)

@@ -5,7 +5,7 @@ use native.Mathlib.Nat.{mod-le, mod-eq_of_lt, lt_of_le_of_lt}
 use native.Mathlib.Omega.{arith}
 use lib.Dec.{T, leb, le→leb, lit<}
 use lib.IntN.{pos}
-use lib.Ieee.{binary32, nan_bits, in_float, of_bits, of_int, sub, div}
+use lib.Ieee.{binary32, in_float, of_bits, of_int, sub, div}
 use Rattle.exponential.specs.ExpNeg.{rest_of, poly_of, c1, c2}
 use Rattle.exponential_steps.proofs.poly_at.Goals as goal
 
@@ -15,14 +15,6 @@ exact m n h = le→leb (n % m) (2 ^ 24) (omega (arith, mod-le n m))
 pub int_to_float-r : goal.int_to_float-r
 unfolding in_float
 int_to_float-r c = exact _ c.args.n c.requires.n_bound
-
-pub float_from_bits-result : goal.float_from_bits-result
-unfolding nan_bits
-float_from_bits-result c = tt
-
-pub float_from_bits-result-2 : goal.float_from_bits-result-2
-unfolding nan_bits
-float_from_bits-result-2 c = tt
 
 pub returns : goal.returns
 unfolding poly_of rest_of c1 c2 of_bits

@@ -1,18 +1,8 @@
 -- `exponential_steps::polys` meets its contract. The loop's invariant: the elements before i are mapped, the others are as they were. Assumes nothing.
-use mathlib.Core.Path.{◌≡◌}
-use Prim.Native.Nat.{◌-◌, ◌≤◌}
-use lib.ListN.{length}
-use lib.Ieee.{Float}
-use Rattle.tensor_laws.proofs.InPlace.{mapped_to}
+use Rattle.std.proofs.Common.{◌≡◌, ℕ, ◌≤◌, map, take, get_or}
+use lib.Ieee.{nan}
 use Rattle.exponential.specs.ExpNeg.{rest_of, poly_of}
 use Rattle.exponential_steps.proofs.polys.Given as goal
 
--- what an element becomes
-abbrev pub each_of : Float → Float
-each_of y = poly_of (rest_of y)
-
 abbrev pub invariant-loop-i : goal.invariant-loop-i
-invariant-loop-i l = (l.i ≤ length l.initial.row) × (l.row ≡ mapped_to each_of l.i l.initial.row)
-
-abbrev pub decreases-loop-i : goal.decreases-loop-i
-decreases-loop-i l = length l.initial.row - l.i
+invariant-loop-i l = (take l.i l.row ≡ map (λ y. poly_of (rest_of y)) (take l.i l.initial.row)) × ((k : ℕ) → l.i ≤ k → get_or l.row k nan ≡ get_or l.initial.row k nan)

@@ -11,7 +11,7 @@ use Rattle.call.specs.declared.Form.{Form}
 use Rattle.call.specs.declared.Form.TheVariants.{Plain, Cached, Counted}
 use Rattle.call.specs.Limits.{total_of}
 use Rattle.call.specs.Lengths.{in_cached}
-use Rattle.call.specs.Tensors.{Inputs, inputs_of}
+use Rattle.call.specs.Lent.{lent_now}
 use Rattle.call.proofs.Facts.{InLimits}
 use Rattle.attention.specs.Outcomes.{present_key_tensor, present_value_tensor, where_cached}
 use Rattle.rows.proofs.Ready.{limits}
@@ -19,9 +19,6 @@ use Rattle.heads.specs.Heads.{HeadsTo, HeadsDone}
 use Rattle.heads.proofs.Heads.{begun, finished}
 use Rattle.heads_all.proofs.all_heads.Goals as goal
 use Rattle.heads_all.proofs.all_heads.Goals.{Start}
-
-abbrev inputs : Start → Inputs
-inputs c = let s = c.args in inputs_of s.query.now s.key.now s.value.now s.boolmask.now s.floatmask.now s.pastkey.now s.pastvalue.now s.live.now
 
 within : (c : Start) → InLimits c.args.call
 within c = limits c.requires.accepting
@@ -32,25 +29,25 @@ absent Plain out t m z l = none_long out l
 absent Cached out t m z l = absurd (omega arith)
 absent Counted out t m z l = none_long out l
 
-no_keys : (c : Start) → in_cached c.args.call.form 1 ≡ 0 → c.args.presentkey.now ≡ present_key_tensor c.args.call (inputs c)
+no_keys : (c : Start) → in_cached c.args.call.form 1 ≡ 0 → c.args.presentkey.now ≡ present_key_tensor c.args.call (lent_now c.args.inputs)
 unfolding present_key_tensor
 no_keys c z = let s = c.args in absent s.call.form s.presentkey.now _ (s.call.batches * s.call.kvheads * total_of s.call * s.call.size) z c.requires.presentkey_len.0
 
-no_values : (c : Start) → in_cached c.args.call.form 1 ≡ 0 → c.args.presentvalue.now ≡ present_value_tensor c.args.call (inputs c)
+no_values : (c : Start) → in_cached c.args.call.form 1 ≡ 0 → c.args.presentvalue.now ≡ present_value_tensor c.args.call (lent_now c.args.inputs)
 unfolding present_value_tensor
 no_values c z = let s = c.args in absent s.call.form s.presentvalue.now _ (s.call.batches * s.call.kvheads * total_of s.call * s.call.vsize) z c.requires.presentkey_len.1
 
 -- every head, where there are no present caches
 heads_done : (c : Start) (y s work : List Float) (r : ℕ)
-    → ((y₀ s₀ : List Float) (m : ℕ) → HeadsTo c.args.call (inputs c) y₀ s₀ 0 c.args.output.now c.args.scores.now c.args.work.now m → HeadsTo c.args.call (inputs c) y₀ s₀ (c.args.call.batches * c.args.call.qheads) y s work (m + r))
+    → ((y₀ s₀ : List Float) (m : ℕ) → HeadsTo c.args.call (lent_now c.args.inputs) y₀ s₀ 0 c.args.output.now c.args.scores.now c.args.work.now m → HeadsTo c.args.call (lent_now c.args.inputs) y₀ s₀ (c.args.call.batches * c.args.call.qheads) y s work (m + r))
     → in_cached c.args.call.form 1 ≡ 0
-    → HeadsDone c.args.call (inputs c) y c.args.presentkey.now c.args.presentvalue.now s work r
+    → HeadsDone c.args.call (lent_now c.args.inputs) y c.args.presentkey.now c.args.presentvalue.now s work r
 heads_done c y s work r carried z =
     let a = c.args in
     let q = c.requires.output_len in
-    subst (HeadsDone a.call (inputs c) y a.presentkey.now a.presentvalue.now s work) (zero-add r)
-    (finished a.call (inputs c) (within c) a.output.now a.scores.now (a.call.batches * a.call.qheads) y a.presentkey.now a.presentvalue.now s work (0 + r)
-    (carried a.output.now a.scores.now 0 (begun a.call (inputs c) (within c) a.output.now a.scores.now a.work.now q.0 q.1 q.2)) (omega arith) (no_keys c z) (no_values c z))
+    subst (HeadsDone a.call (lent_now c.args.inputs) y a.presentkey.now a.presentvalue.now s work) (zero-add r)
+    (finished a.call (lent_now c.args.inputs) (within c) a.output.now a.scores.now (a.call.batches * a.call.qheads) y a.presentkey.now a.presentvalue.now s work (0 + r)
+    (carried a.output.now a.scores.now 0 (begun a.call (lent_now c.args.inputs) (within c) a.output.now a.scores.now a.work.now q.0 q.1 q.2)) (omega arith) (no_keys c z) (no_values c z))
 
 pub overflow_mul-all : goal.overflow_mul-all
 overflow_mul-all c = let l = within (goal.at.overflow_mul-all c).Start in omega (arith, mul-le-mul {n₂ = 8} {m₂ = 32} l.batches_most l.qheads_most)

@@ -3,4 +3,4 @@ use Rattle.interface.proofs.Reported.{returned_is}
 use Rattle.klaverdomp.proofs.klaverdomp_attention_3.Goals as goal
 
 pub returns : goal.returns
-returns c = returned_is c.report-given.result c.attention-answer.result _ _ c.report-given.ensures (rw c.decode-call.ensures at c.attention-answer.ensures)
+returns c = returned_is _ c.attention-answer.result _ _ c.tell_answer.ensures (rw c.decode-call.ensures at c.attention-answer.ensures)

@@ -3,4 +3,4 @@ use Rattle.interface.proofs.Reported.{returned_is}
 use Rattle.klaverdomp.proofs.klaverdomp_step_3.Goals as goal
 
 pub returns : goal.returns
-returns c = returned_is c.report-told.result c.step-answer.result _ _ c.report-told.ensures (rw c.decode-call.ensures at c.step-answer.ensures)
+returns c = returned_is _ c.step-stepped.result _ _ c.tell_answer.ensures (rw c.decode-call.ensures at c.step-stepped.ensures)

@@ -1,11 +1,7 @@
 -- `lanes_dot::dot` meets its contract. The loop's invariant: the lanes are those of the first 4 m elements.
-use mathlib.Core.Path.{◌≡◌}
-use Prim.Native.Nat.{◌*◌, ◌-◌, ◌≤◌}
+use Rattle.std.proofs.Common.{◌≡◌, ◌*◌}
 use Rattle.lanes.specs.Sums.{lanes_of}
 use Rattle.lanes_dot.proofs.dot.Given as goal
 
 abbrev pub invariant-loop-m : goal.invariant-loop-m
-invariant-loop-m l = (l.m ≤ l.fours) × (l.lanes ≡ lanes_of l.q l.k (l.m * 4))
-
-abbrev pub decreases-loop-m : goal.decreases-loop-m
-decreases-loop-m l = l.fours - l.m
+invariant-loop-m l = l.lanes ≡ lanes_of l.q l.k (l.m * 4)

@@ -1,8 +1,7 @@
 -- `records_read::read_row` meets its contract. The loop's invariant: the elements before i are read, the others are as they were. Assumes nothing.
 use mathlib.Core.Path.{◌≡◌}
 use mathlib.Core.List.{List}
-use Prim.Native.Nat.{ℕ, ◌+◌, ◌-◌, ◌*◌, ◌≤◌}
-use lib.ListN.{length}
+use Prim.Native.Nat.{ℕ, ◌+◌, ◌*◌}
 use lib.Ieee.{Float}
 use Rattle.tensor_laws.proofs.InPlace.{indexed_to}
 use Rattle.records.specs.Numbers.{f32_at}
@@ -13,7 +12,4 @@ abbrev pub each_of : List ℕ → ℕ → Float → Float
 each_of bytes k x = f32_at bytes (0 + k * 4)
 
 abbrev pub invariant-loop-i : goal.invariant-loop-i
-invariant-loop-i l = (l.i ≤ length l.initial.row) × (l.row ≡ indexed_to (each_of l.bytes) l.i l.initial.row)
-
-abbrev pub decreases-loop-i : goal.decreases-loop-i
-decreases-loop-i l = length l.initial.row - l.i
+invariant-loop-i l = l.row ≡ indexed_to (each_of l.bytes) l.i l.initial.row

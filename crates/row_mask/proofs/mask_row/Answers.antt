@@ -1,49 +1,32 @@
 -- `row_mask::mask_row` meets its contract. Assumes nothing.
-use mathlib.Core.Path.{◌≡◌, sym, ap, subst, ◌∙◌}
-use mathlib.Core.List.{List}
-use Prim.Native.Nat.{◌+◌}
-use lib.ListN.{length}
-use lib.Ieee.{Float}
+use Rattle.std.proofs.Common.{◌≡◌, ℕ, ◌+◌, ◌<◌, List, length, sym, ap, ◌∙◌, rules}
+use Rattle.std.specs.Float.{Float, nan}
+use Rattle.std.specs.Float.Ieee.{of_bits, neg}
+use Rattle.tensor_laws.specs.Layout.{tabulate}
+use Rattle.tensor_laws.proofs.Tabulate.{tabulate_get_d, tabulate_ext}
+use Rattle.softmax.specs.Lists.{element_of}
 use Rattle.call.specs.declared.MaskKind.{MaskKind}
+use Rattle.call.specs.declared.MaskKind.TheVariants.{Boolean, FloatMask}
 use Rattle.attention.specs.Admission.{repeated}
-use Rattle.row_steps.specs.Steps.{masked_row_by, MaskRowFits}
+use Rattle.row_steps.specs.Steps.{masked_by, masked_row_by}
 use Rattle.row_steps.proofs.Masked.{masked_none}
 use Rattle.row_mask.proofs.mask_row.Goals as goal
-use Rattle.row_mask.proofs.mask_row.Goals.{Start}
 
--- the mask has the cells of the row, of whichever kind it is
-fits-as : (c : Start) (kind : MaskKind) → c.args.kind ≡ kind → let s = c.args in MaskRowFits kind (length s.bytes.now) (length s.cells.now) s.at s.width (length s.row.now)
-fits-as c kind e = let s = c.args in subst (λ (k : MaskKind). MaskRowFits k (length s.bytes.now) (length s.cells.now) s.at s.width (length s.row.now)) e c.requires
-
--- the row under a mask of that kind
-abbrev row_under : Start → MaskKind → List Float
-row_under c kind = let s = c.args in masked_row_by kind s.bytes.now s.cells.now (λ j. s.at + repeated s.width j) s.row.now
-
-row_as : (c : Start) (kind : MaskKind) → c.args.kind ≡ kind → row_under c kind ≡ row_under c c.args.kind
-row_as c kind e = ap (row_under c) (sym e)
-
-pub mask_bytes-requires : goal.mask_bytes-requires
-mask_bytes-requires c = fits-as (goal.at.mask_bytes-requires c).Start _ c.in-Boolean.is
-
-pub mask_cells-requires : goal.mask_cells-requires
-mask_cells-requires c = fits-as (goal.at.mask_cells-requires c).Start _ c.in-FloatMask.is
+-- a row whose every score is masked
+masked : (kind : MaskKind) (bytes : List ℕ) (cells : List Float) (index : ℕ → ℕ) (row new : List Float) → length new ≡ length row → ((j : ℕ) → j < length row → element_of new j ≡ masked_by kind bytes cells (index j) (element_of row j)) → new ≡ masked_row_by kind bytes cells index row
+unfolding masked_row_by
+masked kind bytes cells index row new long each = sym (tabulate_get_d new nan) ∙ ap (λ (n : ℕ). tabulate n (element_of new)) long ∙ tabulate_ext (length row) (element_of new) _ each
 
 pub returns-in-NoMask : goal.returns-in-NoMask
-returns-in-NoMask c =
-    let start = c in
-    let s = start.args in
-    sym (masked_none s.bytes.now s.cells.now (λ j. s.at + repeated s.width j) s.row.now) ∙ row_as (goal.at.returns-in-NoMask c).Start _ c.in-NoMask.is
+returns-in-NoMask c = let s = c.args in let m = s.mask in rw c.in-NoMask.is (sym (masked_none m.bytes.now m.cells.now (λ j. m.at + repeated m.width j) s.row.now))
 
 pub returns-in-Boolean : goal.returns-in-Boolean
-unfolding masked_row_by
+unfolding of_bits neg
 returns-in-Boolean c =
-    let m = c in
-    let t = m in
-    m.mask_bytes.ensures ∙ row_as (goal.at.returns-in-Boolean c).Start _ t.in-Boolean.is
+    let s = c.args in let m = s.mask in
+    rw c.in-Boolean.is (masked Boolean m.bytes.now m.cells.now (λ j. m.at + repeated m.width j) s.row.now c.mask_each.new.row c.mask_each.auto.row (λ j h. let e = c.mask_each.ensures j 0 h in search rules))
 
 pub returns-in-FloatMask : goal.returns-in-FloatMask
-unfolding masked_row_by
 returns-in-FloatMask c =
-    let m = c in
-    let t = m in
-    m.mask_cells.ensures ∙ row_as (goal.at.returns-in-FloatMask c).Start _ t.in-FloatMask.is
+    let s = c.args in let m = s.mask in
+    rw c.in-FloatMask.is (masked FloatMask m.bytes.now m.cells.now (λ j. m.at + repeated m.width j) s.row.now c.mask_each-in-FloatMask.new.row c.mask_each-in-FloatMask.auto.row (λ j h. let e = c.mask_each-in-FloatMask.ensures j nan h in search rules))

@@ -7,10 +7,9 @@ use native.Mathlib.Omega.{arith}
 use lib.ListN.{length}
 use lib.Ieee.{Float}
 use Rattle.softmax.specs.Lists.{element_of}
-use Rattle.attention.specs.Elements.{position_cell}
-use Rattle.attention.specs.Admission.{repeated}
-use Rattle.caches.specs.Rows.{position_run}
-use Rattle.admitted_sum.specs.Sums.{admitted_by, added_row_of}
+use Rattle.caches.specs.Lent.{head_cell, head_run}
+use Rattle.admitted_sum.specs.Sums.{added_row_of}
+use Rattle.admitted_sum.specs.Masks.{admits}
 use Rattle.admitted_sum.proofs.Added.{added_row_none}
 use Rattle.row_runs.proofs.Runs.{run_start, run_inside, run_weighed}
 use Rattle.row_output.proofs.weigh_run.Goals as goal
@@ -18,17 +17,16 @@ use Rattle.row_output.proofs.weigh_run.Goals.{After-row_stride-stride, Else-weig
 
 -- the mask admits position j of those given
 abbrev sees_at : Start → ℕ → Bool
-sees_at c j = let s = c.args in admitted_by s.call.mask s.bytes.now s.cells.now (s.at + repeated s.call.maskk (s.from + j))
+sees_at c j = let s = c.args in admits s.mask (s.from + j)
 
 -- the output row with n positions weighed
 abbrev weighed_at : Start → ℕ → List Float
-weighed_at c n = let s = c.args in added_row_of n (sees_at c) (element_of s.weights.now) (λ j k. position_cell s.call s.past.now s.incoming.now s.call.vsize s.b s.g (s.from + j) k) s.out.now
+weighed_at c n = let s = c.args in added_row_of n (sees_at c) (element_of s.weights.now) (λ j k. head_cell s.call s.cache (s.from + j) k) s.out.now
 
 pub returns-then-weights-eq0 : goal.returns-then-weights-eq0
 returns-then-weights-eq0 c =
-    let start = c in
-    let s = start.args in
-    sym (added_row_none (sees_at (goal.at.returns-then-weights-eq0 c).Start) (element_of s.weights.now) (λ j k. position_cell s.call s.past.now s.incoming.now s.call.vsize s.b s.g (s.from + j) k) s.out.now)
+    let s = c.args in
+    sym (added_row_none (sees_at (goal.at.returns-then-weights-eq0 c).Start) (element_of s.weights.now) (λ j k. head_cell s.call s.cache (s.from + j) k) s.out.now)
     ∙ ap (weighed_at (goal.at.returns-then-weights-eq0 c).Start) (sym c.if-weights-eq0.true)
 
 -- there is a position
@@ -45,28 +43,22 @@ row_stride-stride-requires c = let f = c.requires.run_fits in record { call_valu
 inside : (c : After-row_stride-stride) → (j : ℕ) → let s = c.args in
     j < length s.weights.now → j * c.row_stride-stride.result + length s.out.now ≤ length c.run_of-values.result.now
 inside c j l =
-    let k = c in
-    let start = k in
-    let s = start.args in
-    subst (λ (n : ℕ). j * c.row_stride-stride.result + n ≤ length k.run_of-values.result.now) (sym start.requires.out_len)
-    (subst (λ (r : List Float). j * c.row_stride-stride.result + s.call.vsize ≤ length r) (sym k.run_of-values.ensures)
-    (subst (λ (n : ℕ). j * n + s.call.vsize ≤ length (position_run s.call s.past.now s.incoming.now s.call.vsize s.b s.g s.from (length s.weights.now))) (sym c.row_stride-stride.ensures)
-    (run_inside s.call s.past.now s.incoming.now s.call.vsize s.b s.g s.from (length s.weights.now) start.requires.run_fits j l)))
+    let s = c.args in
+    subst (λ (n : ℕ). j * c.row_stride-stride.result + n ≤ length c.run_of-values.result.now) (sym c.requires.out_len)
+    (subst (λ (r : List Float). j * c.row_stride-stride.result + s.cache.size ≤ length r) (sym c.run_of-values.ensures)
+    (subst (λ (n : ℕ). j * n + s.cache.size ≤ length (head_run s.call s.cache s.from (length s.weights.now))) (sym c.row_stride-stride.ensures)
+    (run_inside s.call s.cache.past.now s.cache.incoming.now s.cache.size s.cache.b s.cache.g s.from (length s.weights.now) c.requires.run_fits j l)))
 
 pub weigh_admitted-requires : goal.weigh_admitted-requires
 weigh_admitted-requires c = record { weights_bound = c.requires.weights_bound; by_index = λ j l. inside (goal.at.weigh_admitted-requires c).After-row_stride-stride j l }
 
 pub returns : goal.returns
 returns c =
-    let a = c in
-    let t = a in
-    let k = t in
-    let start = k in
-    let s = start.args in
+    let s = c.args in
     let n = length s.weights.now in
-    let rows = position_run s.call s.past.now s.incoming.now s.call.vsize s.b s.g s.from (length s.weights.now) in
+    let rows = head_run s.call s.cache s.from (length s.weights.now) in
     let weighed : List Float → ℕ → List Float = λ r d. added_row_of n (sees_at (goal.at.returns c).Start) (element_of s.weights.now) (λ j k. element_of r (j * d + k)) s.out.now in
-    a.weigh_admitted.ensures
-    ∙ ap (λ (r : List Float). weighed r t.row_stride-stride.result) k.run_of-values.ensures
-    ∙ ap (weighed rows) t.row_stride-stride.ensures
-    ∙ run_weighed s.call s.past.now s.incoming.now s.call.vsize s.b s.g s.from n start.requires.run_fits (sees_at (goal.at.returns c).Start) (element_of s.weights.now) s.out.now start.requires.out_len
+    c.weigh_admitted.ensures
+    ∙ ap (λ (r : List Float). weighed r c.row_stride-stride.result) c.run_of-values.ensures
+    ∙ ap (weighed rows) c.row_stride-stride.ensures
+    ∙ run_weighed s.call s.cache.past.now s.cache.incoming.now s.cache.size s.cache.b s.cache.g s.from n c.requires.run_fits (sees_at (goal.at.returns c).Start) (element_of s.weights.now) s.out.now c.requires.out_len

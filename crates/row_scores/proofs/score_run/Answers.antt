@@ -7,7 +7,7 @@ use lib.ListN.{length}
 use lib.Ieee.{Float}
 use Rattle.tensor_laws.proofs.Tabulate.{none_long, length_tabulate}
 use Rattle.softmax.specs.Lists.{score_rows_of}
-use Rattle.caches.specs.Rows.{position_run}
+use Rattle.caches.specs.Lent.{head_run}
 use Rattle.row_runs.proofs.Runs.{run_start, run_inside, run_scores}
 use Rattle.row_scores.proofs.score_run.Goals as goal
 use Rattle.row_scores.proofs.score_run.Goals.{Else-row-eq0}
@@ -27,23 +27,17 @@ row_stride-stride-requires c = let f = c.requires.run_fits in record { call_valu
 
 pub score_rows-requires : goal.score_rows-requires
 score_rows-requires c j l =
-    let k = c in
-    let start = k in
-    let s = start.args in
-    subst (λ (n : ℕ). j * c.row_stride-stride.result + n ≤ length k.run_of-keys.result.now) (sym start.requires.q_len)
-    (subst (λ (r : List Float). j * c.row_stride-stride.result + s.call.size ≤ length r) (sym k.run_of-keys.ensures)
-    (subst (λ (n : ℕ). j * n + s.call.size ≤ length (position_run s.call s.past.now s.incoming.now s.call.size s.b s.g s.from (length s.row.now))) (sym c.row_stride-stride.ensures)
-    (run_inside s.call s.past.now s.incoming.now s.call.size s.b s.g s.from (length s.row.now) start.requires.run_fits j l)))
+    let s = c.args in
+    subst (λ (n : ℕ). j * c.row_stride-stride.result + n ≤ length c.run_of-keys.result.now) (sym c.requires.q_len)
+    (subst (λ (r : List Float). j * c.row_stride-stride.result + s.cache.size ≤ length r) (sym c.run_of-keys.ensures)
+    (subst (λ (n : ℕ). j * n + s.cache.size ≤ length (head_run s.call s.cache s.from (length s.row.now))) (sym c.row_stride-stride.ensures)
+    (run_inside s.call s.cache.past.now s.cache.incoming.now s.cache.size s.cache.b s.cache.g s.from (length s.row.now) c.requires.run_fits j l)))
 
 pub returns : goal.returns
 returns c =
-    let a = c in
-    let t = a in
-    let k = t in
-    let start = k in
-    let s = start.args in
+    let s = c.args in
     let n = length s.row.now in
-    a.score_rows.ensures
-    ∙ ap (λ (r : List Float). score_rows_of s.q.now r t.row_stride-stride.result s.scale n) k.run_of-keys.ensures
-    ∙ ap (λ (d : ℕ). score_rows_of s.q.now (position_run s.call s.past.now s.incoming.now s.call.size s.b s.g s.from (length s.row.now)) d s.scale n) t.row_stride-stride.ensures
-    ∙ run_scores s.call s.past.now s.incoming.now s.call.size s.b s.g s.from n start.requires.run_fits s.q.now s.scale start.requires.q_len
+    c.score_rows.ensures
+    ∙ ap (λ (r : List Float). score_rows_of s.q.now r c.row_stride-stride.result s.scale n) c.run_of-keys.ensures
+    ∙ ap (λ (d : ℕ). score_rows_of s.q.now (head_run s.call s.cache s.from (length s.row.now)) d s.scale n) c.row_stride-stride.ensures
+    ∙ run_scores s.call s.cache.past.now s.cache.incoming.now s.cache.size s.cache.b s.cache.g s.from n c.requires.run_fits s.q.now s.scale c.requires.q_len

@@ -1,11 +1,9 @@
 -- `row_visible::mask_start` meets its contract. Assumes nothing.
-use mathlib.Core.Path.{◌≡◌, sym, ap, ◌∙◌}
-use mathlib.Core.Logic.{◌⊎◌, ⊎_elim}
+use mathlib.Core.Path.{sym, ap, ◌∙◌}
 use Prim.Native.Nat.{ℕ, ◌+◌, ◌*◌, ◌≤◌}
 use native.Mathlib.Nat.{mul-le-mul}
 use native.Mathlib.Omega.{arith}
 use Rattle.call.specs.declared.MaskKind.{MaskKind}
-use Rattle.call.specs.declared.MaskKind.TheVariants.{Boolean, FloatMask}
 use Rattle.call.proofs.Facts.{limits→facts}
 use Rattle.call.proofs.MaskBounds.{mask_bounds}
 use Rattle.row_steps.specs.Steps.{mask_start}

@@ -11,7 +11,7 @@ use Rattle.tensor_laws.proofs.Parts.{length_part}
 use Rattle.call.specs.Limits.{total_of}
 use Rattle.call.specs.Lengths.{in_scores}
 use Rattle.call.specs.Contents.{live_of}
-use Rattle.call.specs.Tensors.{Inputs, inputs_of}
+use Rattle.call.specs.Lent.{lent_now}
 use Rattle.attention.proofs.Bounded.{MaskFits}
 use Rattle.attention.specs.Elements.{query_at}
 use Rattle.attention.specs.Admission.{repeated}
@@ -25,12 +25,8 @@ use Rattle.rows.proofs.Assembled.{query_row, n_total, m_total, capped_scores, ro
 use Rattle.rows_attend.proofs.attend_row.Goals as goal
 use Rattle.rows_attend.proofs.attend_row.Goals.{After-row_start-a, After-softmax_masked-masked}
 
--- ---- the parts that are lent, as the definitions name them
-abbrev inputs : After-row_start-a → Inputs
-inputs c = let s = c.args in inputs_of s.query.now s.key.now s.value.now s.boolmask.now s.floatmask.now s.pastkey.now s.pastvalue.now s.live.now
-
-fits : (c : After-row_start-a) → MaskFits (inputs c)
-fits c k = c.type_inv.floatmask k
+fits : (c : After-row_start-a) → MaskFits (lent_now c.args.inputs)
+fits c k = rw (c.of_f32s.ensures k) tt
 
 pub key_head-g-requires : goal.key_head-g-requires
 key_head-g-requires c = let r = c.requires.accepting in ((limits r).kvheads_some, group_some r)
@@ -50,7 +46,7 @@ row_start-a-requires c =
 
 -- ---- the query row
 -- it ends inside its tensor
-row-end : (c : After-row_start-a) → let s = c.args in c.row_start-a.result + s.call.size ≤ length s.query.now
+row-end : (c : After-row_start-a) → let s = c.args in c.row_start-a.result + s.call.size ≤ length s.inputs.query.now
 row-end c =
     let s = c.args in
     let u = c.requires.b_lt_batches in
@@ -59,37 +55,37 @@ row-end c =
 pub overflow_add-e : goal.overflow_add-e
 overflow_add-e c = omega (arith, row-end (goal.at.overflow_add-e c).After-row_start-a)
 
-pub offset_bounds-query-a : goal.offset_bounds-query-a
-offset_bounds-query-a c = omega (arith, row-end (goal.at.offset_bounds-query-a c).After-row_start-a)
+pub offset_bounds-inputs-a : goal.offset_bounds-inputs-a
+offset_bounds-inputs-a c = omega (arith, row-end (goal.at.offset_bounds-inputs-a c).After-row_start-a)
 
 pub slice_bounds-score_row-end : goal.slice_bounds-score_row-end
 slice_bounds-score_row-end c = row-end (goal.at.slice_bounds-score_row-end c).After-row_start-a
 
 -- the part that is lent is as long as a row
-part-long : (c : After-row_start-a) → let s = c.args in length (take (c.row_start-a.result + s.call.size - c.row_start-a.result) (drop c.row_start-a.result s.query.now)) ≡ s.call.size
+part-long : (c : After-row_start-a) → let s = c.args in length (take (c.row_start-a.result + s.call.size - c.row_start-a.result) (drop c.row_start-a.result s.inputs.query.now)) ≡ s.call.size
 part-long c =
     let s = c.args in
     let a = c.row_start-a.result in
     let e : a + s.call.size - a ≡ s.call.size = omega arith in
-    ap (λ (n : ℕ). length (take n (drop a s.query.now))) e ∙ length_part a s.call.size s.query.now (row-end c)
+    ap (λ (n : ℕ). length (take n (drop a s.inputs.query.now))) e ∙ length_part a s.call.size s.inputs.query.now (row-end c)
 
 -- ---- step 1: what the functions before it gave is as the definitions have it
 -- the number of visible positions
-visible-is : (c : After-row_start-a) → let s = c.args in c.visible-n.result ≡ visible_of s.call (live_of s.call s.live.now s.b) s.i
+visible-is : (c : After-row_start-a) → let s = c.args in c.visible-n.result ≡ visible_of s.call (live_of s.call s.inputs.live.now s.b) s.i
 visible-is c = let s = c.args in c.visible-n.ensures ∙ ap (λ (n : ℕ). visible_of s.call n s.i) c.live_count-count.ensures
 
 -- the number of scores
-needed-is : (c : After-row_start-a) → let s = c.args in c.scored-m.result ≡ cond c.shows-dots.result (live_of s.call s.live.now s.b) c.visible-n.result
+needed-is : (c : After-row_start-a) → let s = c.args in c.scored-m.result ≡ cond c.shows-dots.result (live_of s.call s.inputs.live.now s.b) c.visible-n.result
 needed-is c = c.scored-m.ensures ∙ ap (λ (n : ℕ). cond c.shows-dots.result n c.visible-n.result) c.live_count-count.ensures
 
 -- the query row, as it is lent
 abbrev row_of : After-row_start-a → List Float
-row_of c = let s = c.args in take (c.row_start-a.result + s.call.size - c.row_start-a.result) (drop c.row_start-a.result s.query.now)
+row_of c = let s = c.args in take (c.row_start-a.result + s.call.size - c.row_start-a.result) (drop c.row_start-a.result s.inputs.query.now)
 
-row-cells : (c : After-row_start-a) → let s = c.args in (k : ℕ) → k < s.call.size → element_of (row_of c) k ≡ query_at s.call (inputs c) s.b s.h s.i k
+row-cells : (c : After-row_start-a) → let s = c.args in (k : ℕ) → k < s.call.size → element_of (row_of c) k ≡ query_at s.call (lent_now c.args.inputs) s.b s.h s.i k
 row-cells c =
     let s = c.args in
-    query_row s.call (inputs c) s.b s.h s.i c.row_start-a.result (c.row_start-a.result + s.call.size - c.row_start-a.result) c.row_start-a.ensures (omega arith)
+    query_row s.call (lent_now c.args.inputs) s.b s.h s.i c.row_start-a.result (c.row_start-a.result + s.call.size - c.row_start-a.result) c.row_start-a.ensures (omega arith)
 
 -- there are no more visible positions than positions, and no more scores
 visible-most : (c : After-row_start-a) → c.visible-n.result ≤ total_of c.args.call
@@ -115,7 +111,7 @@ score_row-requires c =
     let l = c.requires.out_len in
     record {
       q_len = part-long a;
-      run_fits = subst (λ (g : ℕ). RunFits s.call (length s.pastkey.now) (length s.key.now) s.call.size s.b g s.call.past 0) (sym c.key_head-g.ensures) (key_run r s.b s.h u.0 u.1);
+      run_fits = subst (λ (g : ℕ). RunFits s.call (length s.inputs.pastkey.now) (length s.inputs.key.now) s.call.size s.b g s.call.past 0) (sym c.key_head-g.ensures) (key_run r s.b s.h u.0 u.1);
       m_bound = (
         needed-most a,
         omega (arith, needed-most a, l.2),
@@ -124,8 +120,8 @@ score_row-requires c =
     }
 
 -- ---- steps 2 to 4
-pub mask_start-at-requires : goal.mask_start-at-requires
-mask_start-at-requires c =
+pub mask_start-requires : goal.mask_start-requires
+mask_start-requires c =
     let r = c.requires.accepting in
     record { call_value = ((accepts r).limits, (accepts r).mask_shape); b_lt_batches = c.requires.b_lt_batches }
 
@@ -139,8 +135,8 @@ softmax_masked-masked-requires c =
     let n = c.visible-n.result in
     let kept : length c.score_row.new.work ≡ total_of s.call = c.score_row.auto.work ∙ l.2 in
     record {
-      mask_row_fits = subst (λ (at : ℕ). MaskRowFits s.call.mask (length s.boolmask.now) (length s.floatmask.now) at s.call.maskk n) (sym c.mask_start-at.ensures) (mask_row_fits r s.b s.h s.i u.0 u.1 u.2 n (visible-most a));
-      t = capped_scores r (fits a) s.b s.h s.i u.0 u.1 u.2 n c.scored-m.result c.mask_start-at.result c.key_head-g.result c.shows-dots.result (visible-is a) c.shows-dots.ensures (needed-is a) c.mask_start-at.ensures c.key_head-g.ensures
+      mask_row_fits = subst (λ (at : ℕ). MaskRowFits s.call.mask (length s.inputs.boolmask.now) (length s.inputs.floatmask.now) at s.call.maskk n) (sym c.mask_start.ensures) (mask_row_fits r s.b s.h s.i u.0 u.1 u.2 n (visible-most a));
+      t = capped_scores r (fits a) s.b s.h s.i u.0 u.1 u.2 n c.scored-m.result c.mask_start.result c.key_head-g.result c.shows-dots.result (visible-is a) c.shows-dots.ensures (needed-is a) c.mask_start.ensures c.key_head-g.ensures
           (row_of a) (row-cells a) s.shown.now s.work.now c.score_row.new.shown c.score_row.new.work c.score_row.ensures l.2;
       n_in_bounds = (omega (arith, visible-most a, kept), omega (arith, kept, (limits r).total_most));
       shown_len = c.score_row.auto.shown ∙ l.1 ∙ ap (in_scores s.call.mode) (sym kept);
@@ -171,11 +167,11 @@ output_row-requires c =
     let long = taken-long (goal.at.output_row-requires c).After-softmax_masked-masked most in
     record {
       out_len = c.requires.out_len.0;
-      run_fits = subst (λ (g : ℕ). RunFits s.call (length s.pastvalue.now) (length s.value.now) s.call.vsize s.b g s.call.past 0) (sym c.key_head-g.ensures) (value_run r s.b s.h u.0 u.1);
+      run_fits = subst (λ (g : ℕ). RunFits s.call (length s.inputs.pastvalue.now) (length s.inputs.value.now) s.call.vsize s.b g s.call.past 0) (sym c.key_head-g.ensures) (value_run r s.b s.h u.0 u.1);
       weights_len_bound = omega (arith, long, most);
       weights_bound = (
-        omega (arith, long, c.mask_start-at.ensures, mask_start_small r s.b s.h s.i u.0 u.1 u.2 n most),
-        λ j l. subst (λ (at : ℕ). MaskHas s.call.mask (length s.boolmask.now) (length s.floatmask.now) (at + repeated s.call.maskk j)) (sym c.mask_start-at.ensures)
+        omega (arith, long, c.mask_start.ensures, mask_start_small r s.b s.h s.i u.0 u.1 u.2 n most),
+        λ j l. subst (λ (at : ℕ). MaskHas s.call.mask (length s.inputs.boolmask.now) (length s.inputs.floatmask.now) (at + repeated s.call.maskk j)) (sym c.mask_start.ensures)
             (mask_has r s.b s.h s.i u.0 u.1 u.2 j (omega (arith, long, most))),
       );
     }
@@ -186,6 +182,6 @@ returns c =
     let s = c.args in
     let u = c.requires.b_lt_batches in
     let l = c.requires.out_len in
-    row_done c.requires.accepting (fits a) s.b s.h s.i u.0 u.1 u.2 c.visible-n.result c.scored-m.result c.mask_start-at.result c.key_head-g.result c.shows-dots.result (visible-is a) c.shows-dots.ensures (needed-is a) c.mask_start-at.ensures c.key_head-g.ensures
+    row_done c.requires.accepting (fits a) s.b s.h s.i u.0 u.1 u.2 c.visible-n.result c.scored-m.result c.mask_start.result c.key_head-g.result c.shows-dots.result (visible-is a) c.shows-dots.ensures (needed-is a) c.mask_start.ensures c.key_head-g.ensures
     (row_of a) (row-cells a) s.shown.now s.work.now c.score_row.new.shown c.score_row.new.work c.score_row.ensures l.2 l.1
     c.softmax_masked-masked.new.shown c.softmax_masked-masked.new.work c.softmax_masked-masked.result c.softmax_masked-masked.ensures (c.score_row.auto.work ∙ l.2) c.output_row.new.out c.output_row.ensures

@@ -1,6 +1,6 @@
 -- `rows_head::head_rows` meets its contract. The loop's invariant: the rows of the unit before row i are done. Assumes nothing.
-use Prim.Native.Nat.{◌+◌, ◌-◌, ◌≤◌, ◌<◌}
-use Rattle.call.specs.Tensors.{inputs_of}
+use Prim.Native.Nat.{◌+◌, ◌≤◌, ◌<◌}
+use Rattle.call.specs.Lent.{lent_now}
 use Rattle.rows.proofs.UnitRows.{Done}
 use Rattle.rows_head.proofs.head_rows.Given as goal
 
@@ -8,7 +8,4 @@ use Rattle.rows_head.proofs.head_rows.Given as goal
 abbrev pub invariant-loop-i : goal.invariant-loop-i
 invariant-loop-i l =
     (hb : l.b < l.call.batches) × (hh : l.h < l.call.qheads) × (inside : l.first + l.count ≤ l.call.qlen)
-    × Done l.call (inputs_of l.query l.key l.value l.boolmask l.floatmask l.pastkey l.pastvalue l.live) l.b l.h l.first l.count hb hh inside l.initial.output l.initial.scores l.i l.output l.scores l.work l.masked
-
-abbrev pub decreases-loop-i : goal.decreases-loop-i
-decreases-loop-i l = l.end - l.i
+    × Done l.call (lent_now l.inputs) l.b l.h l.first l.count hb hh inside l.initial.output l.initial.scores l.i l.output l.scores l.work l.masked

@@ -1,23 +1,18 @@
--- `score_cap::cap_row` meets its contract: the test is that of the definition. Assumes nothing.
-use mathlib.Core.Path.{◌≡◌, sym, ap, ◌∙◌}
-use mathlib.Core.Bool.{Bool, true, false, cond}
-use mathlib.Core.List.{List}
-use lib.Ieee.{Float, eq, of_bits}
-use Rattle.float_laws.specs.Zero.{plus_zero}
-use Rattle.softmax.specs.Cap.{capped_row_of, capped_row_where}
+use Prim.Native.Nat.{◌+◌, ◌*◌}
+use native.Mathlib.Omega.{arith}
+use lib.Ieee.{of_bits}
+use Rattle.exponential_row.proofs.Rows.{block_mapped, all_mapped}
+use Rattle.softmax.specs.Cap.{capped_or_hidden, capped_row_of, capped_row_where}
 use Rattle.score_cap.proofs.cap_row.Goals as goal
 
--- the row by the test
-capped_by : (c : Float) (row : List Float) (b : Bool) → eq c plus_zero ≡ b → cond b row (capped_row_of c row) ≡ capped_row_where c row
-unfolding capped_row_where
-capped_by c row b e = ap (λ (t : Bool). cond t row (capped_row_of c row)) (sym e)
-
-pub returns-then-c : goal.returns-then-c
-unfolding of_bits
-returns-then-c c = let s = c.args in capped_by s.c s.row.now true c.if-c.true
+pub loop-block-preserved : goal.loop-block-preserved
+unfolding capped_row_of
+loop-block-preserved c =
+    let l = c.loop-block in
+    block_mapped (capped_or_hidden c.args.c) _ _ _ _ _ (64 * l.block) l.invariant (omega arith) c.cap_block.ensures (omega arith) (64 * (l.block + 1)) (omega arith)
 
 pub returns : goal.returns
-unfolding of_bits
+unfolding of_bits capped_row_of capped_row_where
 returns c =
-    let s = c.args in
-    c.cap_blocks.ensures ∙ capped_by s.c s.row.now false c.if-c.false
+    let l = c.loop-block in
+    rw c.if-c.false (all_mapped (capped_or_hidden c.args.c) _ _ _ _ _ (64 * l.block) l.invariant (omega arith) c.cap_block-2.ensures (omega arith) (omega arith))

@@ -7,17 +7,15 @@ use mathlib.Core.List.{List}
 use lib.ListN.{length}
 use lib.Ieee.{Float}
 use Rattle.tensor_laws.proofs.Parts.{length_part}
-use Rattle.contents.specs.Faults.{index_or}
 use Rattle.session_file.specs.declared.Sizes.{Sizes}
-use Rattle.session_file.specs.Below.{least_from}
 use Rattle.session_file.specs.Form.{session_of}
 use Rattle.session_file.specs.Reader.{caches_fit}
 use Rattle.session_file.specs.Writer.{rows_fault}
 use Rattle.session_writer.specs.Fits.{CachesFit}
-use Rattle.session_writer.proofs.Counts.{index_clear}
-use Rattle.session_append.proofs.Answers.{caches_fit_lem, new_length, too_many, wrong_lengths, wrong_element, no_room, saved}
+use Rattle.session_writer.proofs.Counts.{found_below, none_clear}
+use Rattle.session_append.proofs.Answers.{caches_fit_lem, new_length, too_many, wrong_lengths, wrong_element, no_room, all_saved}
 use Rattle.session_append.proofs.append_to.Goals as goal
-use Rattle.session_append.proofs.append_to.Goals.{Else-fault-count, Else-n-count, Else-not-caches_fit}
+use Rattle.session_append.proofs.append_to.Goals.{Else-n-count, Else-not-caches_fit}
 
 few : (c : Else-n-count) → c.args.n + c.args.count ≤ 2048
 few c = omega (arith, c.if-n-count.false, c.requires.n_bound)
@@ -35,10 +33,6 @@ fit c =
 abbrev fault_at : Sizes → ℕ → List Float → List Float → ℕ → Bool
 fault_at sizes count keys values = rows_fault (session_of sizes count keys values)
 
--- no index below the number of positions was found
-none_below : (c : Else-fault-count) → c.args.count ≤ index_or (least_from (fault_at c.args.sizes c.args.count c.args.keys.now c.args.values.now) c.args.count 0) c.args.count
-none_below c = omega (arith, c.first_fault-fault.ensures, c.if-fault-count.false)
-
 pub returns-then-n-count : goal.returns-then-n-count
 returns-then-n-count c =
     too_many c.args.sizes c.args.n c.args.buffer.now c.args.count c.args.keys.now c.args.values.now (omega (arith, c.if-n-count.true, c.requires.n_bound))
@@ -48,18 +42,19 @@ returns-then-not-caches_fit c =
     let a = c.args in
     wrong_lengths a.sizes a.n a.buffer.now a.count a.keys.now a.values.now (few (goal.at.returns-then-not-caches_fit c).Else-n-count) (sym c.caches_fit.ensures ∙ c.if-not-caches_fit.true)
 
-pub first_fault-fault-requires : goal.first_fault-fault-requires
-first_fault-fault-requires c = (fit c).1
+pub overflow_add-position : goal.overflow_add-position
+overflow_add-position c =
+    omega (arith, found_below (fault_at c.args.sizes c.args.count c.args.keys.now c.args.values.now) c.args.count 0 c.in-Some.fault (sym c.first_fault.ensures ∙ c.in-Some.is), c.if-n-count.false, c.requires.n_bound)
 
-pub returns-then-fault-count : goal.returns-then-fault-count
-returns-then-fault-count c =
+pub returns-in-Some : goal.returns-in-Some
+returns-in-Some c =
     let a = c.args in
-    wrong_element a.sizes a.n a.buffer.now a.count a.keys.now a.values.now (few (goal.at.returns-then-fault-count c).Else-n-count) (fit (goal.at.returns-then-fault-count c).Else-not-caches_fit).0 c.first_fault-fault.result c.first_fault-fault.ensures c.if-fault-count.true
+    wrong_element a.sizes a.n a.buffer.now a.count a.keys.now a.values.now (few (goal.at.returns-in-Some c).Else-n-count) (fit (goal.at.returns-in-Some c).Else-not-caches_fit).0 c.in-Some.fault (sym c.first_fault.ensures ∙ c.in-Some.is)
 
 pub returns-then-buffer-to : goal.returns-then-buffer-to
 returns-then-buffer-to c =
     let a = c.args in
-    no_room a.sizes a.n a.buffer.now a.count a.keys.now a.values.now (few (goal.at.returns-then-buffer-to c).Else-n-count) (fit (goal.at.returns-then-buffer-to c).Else-not-caches_fit).0 (none_below (goal.at.returns-then-buffer-to c).Else-fault-count) (omega (arith, c.record_start-to.ensures, c.if-buffer-to.true))
+    no_room a.sizes a.n a.buffer.now a.count a.keys.now a.values.now (few (goal.at.returns-then-buffer-to c).Else-n-count) (fit (goal.at.returns-then-buffer-to c).Else-not-caches_fit).0 (sym c.first_fault.ensures ∙ c.in_default.is) (omega (arith, c.record_start-to.ensures, c.if-buffer-to.true))
 
 pub write_positions-requires : goal.write_positions-requires
 write_positions-requires c =
@@ -68,11 +63,11 @@ write_positions-requires c =
     let l = new_length c.args.sizes c.args.n c.args.count from to c.record_start-from.ensures c.record_start-to.ensures in
     record {
       caches_fit = (fit (goal.at.write_positions-requires c).Else-not-caches_fit).1;
-      by_index = index_clear (fault_at c.args.sizes c.args.count c.args.keys.now c.args.values.now) c.args.count (none_below (goal.at.write_positions-requires c).Else-fault-count);
+      by_index = none_clear (fault_at c.args.sizes c.args.count c.args.keys.now c.args.values.now) c.args.count (sym c.first_fault.ensures ∙ c.in_default.is);
       bytes_len = length_part from (to - from) c.args.buffer.now (omega (arith, l.0, c.if-buffer-to.false)) ∙ l.1;
     }
 
 pub returns : goal.returns
 returns c =
     let a = c.args in
-    saved a.sizes a.n a.buffer.now a.count a.keys.now a.values.now (few (goal.at.returns c).Else-n-count) (fit (goal.at.returns c).Else-not-caches_fit).0 (none_below (goal.at.returns c).Else-fault-count) (fit (goal.at.returns c).Else-not-caches_fit).1 c.record_start-from.result c.record_start-to.result c.write_positions.new.bytes c.record_start-from.ensures c.record_start-to.ensures c.if-buffer-to.false c.write_positions.ensures
+    all_saved a.sizes a.n a.buffer.now a.count a.keys.now a.values.now (few (goal.at.returns c).Else-n-count) (fit (goal.at.returns c).Else-not-caches_fit).0 (sym c.first_fault.ensures ∙ c.in_default.is) (fit (goal.at.returns c).Else-not-caches_fit).1 c.record_start-from.result c.record_start-to.result c.write_positions.new.bytes c.record_start-from.ensures c.record_start-to.ensures c.if-buffer-to.false c.write_positions.ensures

@@ -5,9 +5,8 @@ use mathlib.Core.List.{List}
 use Prim.Native.Nat.{ℕ}
 use borrow.Author.Tests.{le-leb, lt-leb}
 use lib.ListN.{length}
-use Rattle.session_file.specs.declared.Saving.TheVariants.{Saved}
 use Rattle.session_file.specs.Sizes.{sizes_hold}
-use Rattle.session_file.specs.Writer.{written, begin_of}
+use Rattle.session_file.specs.Writer.{written, begin_of, saved}
 use Rattle.session_begin.proofs.begin.Goals as goal
 use Rattle.session_begin.proofs.begin.Goals.{Then-sizes_hold}
 
@@ -25,7 +24,7 @@ pub returns-then-buffer-ge14 : goal.returns-then-buffer-ge14
 unfolding begin_of
 returns-then-buffer-ge14 c =
     let s = c.args in
-    rw (held (goal.at.returns-then-buffer-ge14 c).Then-sizes_hold, le-leb 14 (length s.buffer.now) c.if-buffer-ge14.true) (ap (λ (b : List ℕ). written (Saved 0 14) b) c.write_sizes.ensures)
+    rw (held (goal.at.returns-then-buffer-ge14 c).Then-sizes_hold, le-leb 14 (length s.buffer.now) c.if-buffer-ge14.true) (ap (λ (b : List ℕ). written (saved 0 14) b) c.write_sizes.ensures)
 
 pub returns-then-sizes_hold : goal.returns-then-sizes_hold
 unfolding begin_of

@@ -8,5 +8,5 @@ use Rattle.session_faults.proofs.pattern_fault.Goals as goal
 pub returns-then-bits-le1199570944 : goal.returns-then-bits-le1199570944
 returns-then-bits-le1199570944 c = let b = c.args.bits in rw (fault_bits b, le-leb (b % 2147483648) 1199570944 (omega arith))
 
-pub returns : goal.returns
-returns c = let b = c.args.bits in rw (fault_bits b, lt-leb (b % 2147483648) 1199570944 (omega arith))
+pub returns-else-bits-le1199570944 : goal.returns-else-bits-le1199570944
+returns-else-bits-le1199570944 c = let b = c.args.bits in rw (fault_bits b, lt-leb (b % 2147483648) 1199570944 (omega arith))

@@ -11,14 +11,6 @@ use Rattle.session_file.proofs.Limits.{sizes→facts}
 use Rattle.session_reader.proofs.Payloads.{part_number}
 use Rattle.session_faults.proofs.position_fault.Goals as goal
 
--- OLD GOAL GONE: slice-bounds-payload-faults-start
--- part-payload-faults-start : tie.Need-slice-bounds-payload-faults-start
--- part-payload-faults-start c = search rules
-
--- OLD GOAL GONE: slice-bounds-payload-faults-end
--- part-payload-faults-end : tie.Need-slice-bounds-payload-faults-end
--- part-payload-faults-end c = search rules
-
 pub payload_faults-requires : goal.payload_faults-requires
 payload_faults-requires c =
     let from = c.record_start-from.result + 6 in

@@ -11,7 +11,7 @@ use Rattle.session_file.specs.Reader.{cache_at, file_cell}
 use Rattle.session_file.proofs.Limits.{sizes→facts}
 use Rattle.session_reader.proofs.Products.{rows_most}
 use Rattle.session_reader.proofs.Rows.{row_from, RowFacts, row_facts, pattern_sound, length_row, row_read}
-use Rattle.session_reader.proofs.Loads.{LoadedTo, loaded_none, loaded_next, loaded_all}
+use Rattle.session_reader.proofs.Loads.{LoadedTo, loaded_next, loaded_all}
 use Rattle.session_load.proofs.load_cache.Goals as goal
 use Rattle.session_load.proofs.load_cache.Goals.{After-record_start}
 
@@ -26,20 +26,8 @@ overflow_add-pair c = let f = sizes→facts c.args.sizes c.requires.sizes_value 
 pub overflow_mul-pair : goal.overflow_mul-pair
 overflow_mul-pair c = let f = sizes→facts c.args.sizes c.requires.sizes_value in omega (arith, f.pair)
 
-pub overflow_mul-all : goal.overflow_mul-all
-overflow_mul-all c = omega (arith, rows_most c.args.sizes c.args.n c.requires.sizes_value c.requires.n_bound)
-
-pub nonzero_div-p : goal.nonzero_div-p
-nonzero_div-p c = (sizes→facts c.args.sizes c.requires.sizes_value).rows.0
-
-pub nonzero_rem-r : goal.nonzero_rem-r
-nonzero_rem-r c = (sizes→facts c.args.sizes c.requires.sizes_value).rows.0
-
-pub record_start-requires : goal.record_start-requires
-record_start-requires c =
-    let a = c.args in
-    let f = row_facts a.sizes a.n a.behind a.size c.loop-i.i c.requires.sizes_value c.requires.size_bound c.loop-i-test.true in
-    record { sizes_value = c.requires.sizes_value; p_bound = omega (arith, f.position, c.requires.n_bound) }
+pub overflow_mul-i-end : goal.overflow_mul-i-end
+overflow_mul-i-end c = omega (arith, rows_most c.args.sizes c.args.n c.requires.sizes_value c.requires.n_bound)
 
 -- the row of a turn
 facts_at : (c : After-record_start) → RowFacts c.args.sizes c.args.n c.args.behind c.args.size c.loop-i.i
@@ -63,7 +51,7 @@ row_number : (c : After-record_start)
     (i % rows * a.n + i / rows < 524288) × ((i % rows * a.n + i / rows) * a.size + a.size ≤ length c.loop-i.cache) × (length c.loop-i.cache ≡ length a.cache.now)
 row_number c =
     let a = c.args in
-    let l = c.loop-i.invariant.1.long in
+    let l = c.loop-i.invariant.long in
     let f = row_facts a.sizes a.n a.behind a.size c.loop-i.i c.requires.sizes_value c.requires.size_bound c.loop-i-test.true in
     (omega (arith, f.number, rows_most a.sizes a.n c.requires.sizes_value c.requires.n_bound), omega (arith, f.to), l ∙ sym c.requires.cache_len)
 
@@ -136,16 +124,7 @@ offset_bounds-cache-to c = omega (arith, row_number (goal.at.offset_bounds-cache
 pub slice_bounds-read_row-end-in-loop-i : goal.slice_bounds-read_row-end-in-loop-i
 slice_bounds-read_row-end-in-loop-i c = omega (arith, row_number (goal.at.slice_bounds-read_row-end-in-loop-i c).After-record_start)
 
-pub overflow_add-i : goal.overflow_add-i
-overflow_add-i c =
-    omega (arith, c.loop-i-test.true, rows_most c.args.sizes c.args.n c.requires.sizes_value c.requires.n_bound)
-
 -- The loop and the result.
-
-pub loop-i-init : goal.loop-i-init
-loop-i-init c =
-    let a = c.args in
-    (omega arith, loaded_none (rows_of a.sizes) a.n a.size (file_cell a.sizes a.file.now a.behind) a.cache.now c.requires.cache_len)
 
 pub read_row-requires : goal.read_row-requires
 read_row-requires c =
@@ -176,17 +155,12 @@ loop-i-preserved c =
     λ k h. ap (λ (t : List Float). get_or t k nan) e
     ∙ row_read from long a.size k a.file.now nan (omega arith) h
     ∙ ap (λ (x : ℕ). f32_at a.file.now (x + k * 4)) (begins p) in
-    let whole : a.size ≡ to_of p + a.size - to_of p = omega arith in (
-      omega arith,
-      subst (λ (m : ℕ). LoadedTo rows a.n a.size (file_cell a.sizes a.file.now a.behind) (with_part (to_of p) m l.cache row) (l.i + 1)) whole
-          (loaded_next rows a.n a.size (file_cell a.sizes a.file.now a.behind) l.cache l.i some c.loop-i-test.true row (ap length e ∙ length_row (take long (drop from a.file.now)) 0 a.size) l.invariant.1 cells),
-    )
-
-pub shape_of-cache : goal.shape_of-cache
-shape_of-cache c = c.loop-i.invariant.1.long ∙ sym c.requires.cache_len
+    let whole : a.size ≡ to_of p + a.size - to_of p = omega arith in
+    subst (λ (m : ℕ). LoadedTo rows a.n a.size (file_cell a.sizes a.file.now a.behind) (with_part (to_of p) m l.cache row) (l.i + 1)) whole
+    (loaded_next rows a.n a.size (file_cell a.sizes a.file.now a.behind) l.cache l.i some c.loop-i-test.true row (ap length e ∙ length_row (take long (drop from a.file.now)) 0 a.size) l.invariant cells)
 
 pub returns : goal.returns
 unfolding cache_at
 returns c =
     let a = c.args in
-    loaded_all (rows_of a.sizes) a.n a.size (file_cell a.sizes a.file.now a.behind) c.loop-i.cache c.loop-i.i c.loop-i-test.false c.loop-i.invariant.1
+    loaded_all (rows_of a.sizes) a.n a.size (file_cell a.sizes a.file.now a.behind) c.loop-i.cache c.loop-i.i c.loop-i-test.false c.loop-i.invariant

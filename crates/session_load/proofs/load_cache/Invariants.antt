@@ -1,5 +1,4 @@
 -- `session_load::load_cache` meets its contract. The loop's invariant: the rows of the turns before i stand in the cache. Assumes nothing.
-use Prim.Native.Nat.{◌*◌, ◌≤◌, ◌-◌}
 use Rattle.session_file.specs.Sizes.{rows_of}
 use Rattle.session_file.specs.Reader.{file_cell}
 use Rattle.session_reader.proofs.Loads.{LoadedTo}
@@ -7,7 +6,4 @@ use Rattle.session_load.proofs.load_cache.Given as goal
 
 abbrev pub invariant-loop-i : goal.invariant-loop-i
 invariant-loop-i l =
-    (l.i ≤ rows_of l.sizes * l.n) × LoadedTo (rows_of l.sizes) l.n l.size (file_cell l.sizes l.file l.behind) l.cache l.i
-
-abbrev pub decreases-loop-i : goal.decreases-loop-i
-decreases-loop-i l = rows_of l.sizes * l.n - l.i
+    LoadedTo (rows_of l.sizes) l.n l.size (file_cell l.sizes l.file l.behind) l.cache l.i

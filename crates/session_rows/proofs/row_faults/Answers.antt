@@ -1,38 +1,36 @@
+-- `session_rows::row_faults` meets its contract: the sum of what the elements add counts the faults. Assumes nothing.
 use mathlib.Core.Path.{◌≡◌, sym, ap, ◌∙◌}
-use mathlib.Core.Bool.{Bool}
-use Prim.Native.Nat.{ℕ, ◌+◌}
-use native.Mathlib.Omega.{arith}
-use lib.ListN.{length, get_or}
 use mathlib.Core.List.{List}
+use Prim.Native.Nat.{ℕ, zero, suc, ◌+◌, ◌≤◌}
+use native.Mathlib.Nat.{le_refl}
+use native.Mathlib.Numerals.{add-one}
+use native.Mathlib.Omega.{arith}
+use lib.ListN.{length, get_or, take}
+use lib.Seq.{take_all}
 use lib.Ieee.{Float, nan}
-use Rattle.bool_laws.proofs.Counts.{count_start, count_next, count_le}
-use Rattle.bool_laws.specs.Counts.{count_where}
+use Rattle.std.proofs.Common.{rules}
+use Rattle.std.specs.List.{sum_by}
+use Rattle.std.proofs.lemmas.List.Sums.{sum_by_more}
+use Rattle.bool_laws.proofs.Counts.{count_start, count_next}
+use Rattle.bool_laws.specs.Counts.{tally, count_where}
 use Rattle.call.specs.Contents.{element_fault}
 use Rattle.session_rows.proofs.row_faults.Goals as goal
-use Rattle.session_rows.proofs.row_faults.Goals.{After-fault_number-faults}
 
--- whether element k of a row is at fault
-abbrev fault_at : List Float → ℕ → Bool
-fault_at row k = element_fault (get_or row k nan)
+-- what an element adds
+abbrev number : Float → ℕ
+number x = tally (element_fault x)
 
-pub loop-i-init : goal.loop-i-init
-loop-i-init c = (omega arith, sym (count_start (λ k. element_fault (get_or c.args.row.now k nan))))
-
--- the sum is the number of faults among one element more
-counted : (c : After-fault_number-faults) → c.loop-i.faults + c.fault_number-faults.result ≡ count_where (c.loop-i.i + 1) (fault_at c.args.row.now)
-counted c =
-    (λ j. c.loop-i.invariant.1 j + c.fault_number-faults.ensures j)
-    ∙ sym (count_next c.loop-i.i (fault_at c.args.row.now))
-
-pub overflow_add-faults : goal.overflow_add-faults
-overflow_add-faults c =
-    let e = counted (goal.at.overflow_add-faults c).After-fault_number-faults in
-    omega (arith, count_le (c.loop-i.i + 1) (fault_at c.args.row.now), c.requires)
-
-pub loop-i-preserved : goal.loop-i-preserved
-loop-i-preserved c = (omega arith, counted (goal.at.loop-i-preserved c).After-fault_number-faults)
+sum_counts : (xs : List Float) (i : ℕ) → i ≤ length xs → sum_by number (take i xs) ≡ count_where i (λ k. element_fault (get_or xs k nan))
+sum_counts xs zero h = sym (count_start (λ k. element_fault (get_or xs k nan)))
+sum_counts xs (suc i) h =
+    ap (λ (n : ℕ). sum_by number (take n xs)) (sym (add-one i))
+    ∙ sum_by_more number xs i nan (omega arith)
+    ∙ ap (λ (n : ℕ). n + number (get_or xs i nan)) (sum_counts xs i (omega arith))
+    ∙ sym (count_next i (λ k. element_fault (get_or xs k nan)))
+    ∙ ap (λ (n : ℕ). count_where n (λ k. element_fault (get_or xs k nan))) (add-one i)
 
 pub returns : goal.returns
 returns c =
-    let e : c.loop-i.i ≡ length c.args.row.now = omega arith in
-    c.loop-i.invariant.1 ∙ ap (λ (n : ℕ). count_where n (fault_at c.args.row.now)) e
+    let row = c.args.row.now in
+    let s : c.sum.result ≡ sum_by number row = search rules in
+    s ∙ ap (sum_by number) (sym (take_all (length row) row (le_refl (length row)))) ∙ sum_counts row (length row) (le_refl (length row))

@@ -1,7 +1,7 @@
 use mathlib.Core.Path.{sym}
 use mathlib.Core.Bool.{Bool}
 use native.Mathlib.Omega.{arith}
-use borrow.Author.Count.{below_none, below_more}
+use borrow.Author.Count.{below_more}
 use Rattle.session_file.specs.Form.{cache_row}
 use Rattle.session_file.specs.Writer.{row_fault}
 use Rattle.session_writer.proofs.Rows.{fit→facts, key_fits, value_fits, length_key, length_value, row_faulty, row_sound, either_first, either_second, neither_of, rows_faulty, rows_sound}
@@ -15,11 +15,8 @@ key_fault t = let s = t.args in row_fault (cache_row s.n s.sizes.size s.keys.now
 abbrev value_fault : In-loop-r → Bool
 value_fault t = let s = t.args in row_fault (cache_row s.n s.sizes.vsize s.values.now s.p t.loop-r.r)
 
-pub overflow_mul-rows : goal.overflow_mul-rows
-overflow_mul-rows c = omega (arith, (fit→facts c.requires.caches_fit).rows.1)
-
-pub loop-r-init : goal.loop-r-init
-loop-r-init c = (omega arith, below_none _)
+pub overflow_mul-r-end : goal.overflow_mul-r-end
+overflow_mul-r-end c = omega (arith, (fit→facts c.requires.caches_fit).rows.1)
 
 pub row-requires : goal.row-requires
 row-requires c =
@@ -57,20 +54,14 @@ returns-then-row_faults-gt0-2 c =
     let e = row_faulty (cache_row s.n s.sizes.vsize s.values.now s.p c.loop-r.r) c.row-in-loop-r.result.now c.row_faults-in-loop-r.result c.row-in-loop-r.ensures c.row_faults-in-loop-r.ensures c.if-row_faults-gt0-2.true in
     sym (rows_faulty s.sizes s.n s.keys.now s.values.now s.p c.loop-r.r c.loop-r-test.true (either_second (key_fault (goal.at.returns-then-row_faults-gt0-2 c).In-loop-r) (value_fault (goal.at.returns-then-row_faults-gt0-2 c).In-loop-r) e))
 
-pub overflow_add-r : goal.overflow_add-r
-overflow_add-r c = omega (arith, c.loop-r-test.true, (fit→facts c.requires.caches_fit).rows.1)
-
-pub loop-r-smaller : goal.loop-r-smaller
-loop-r-smaller c = omega (arith, c.loop-r-test.true)
-
 pub loop-r-preserved : goal.loop-r-preserved
 loop-r-preserved c =
     let s = c.args in
     let e = row_sound (cache_row s.n s.sizes.size s.keys.now s.p c.loop-r.r) c.row.result.now c.row_faults.result c.row.ensures c.row_faults.ensures c.if-row_faults-gt0.false in
     let f = row_sound (cache_row s.n s.sizes.vsize s.values.now s.p c.loop-r.r) c.row-in-loop-r.result.now c.row_faults-in-loop-r.result c.row-in-loop-r.ensures c.row_faults-in-loop-r.ensures c.if-row_faults-gt0-2.false in
-    (omega (arith, c.loop-r-test.true), below_more _ _ c.loop-r.invariant.1 (neither_of (key_fault (goal.at.loop-r-preserved c).In-loop-r) (value_fault (goal.at.loop-r-preserved c).In-loop-r) e f))
+    below_more _ _ c.loop-r.invariant (neither_of (key_fault (goal.at.loop-r-preserved c).In-loop-r) (value_fault (goal.at.loop-r-preserved c).In-loop-r) e f)
 
 pub returns : goal.returns
 returns c =
     let s = c.args in
-    sym (rows_sound s.sizes s.n s.keys.now s.values.now s.p (λ k h. c.loop-r.invariant.1 k (omega (arith, c.loop-r-test.false))))
+    sym (rows_sound s.sizes s.n s.keys.now s.values.now s.p (λ k h. c.loop-r.invariant k (omega (arith, c.loop-r-test.false))))

@@ -1,13 +1,9 @@
 -- `session_rows::rows_fault` meets its contract. The loop's invariant: no row before row r is at fault. Assumes nothing.
 use mathlib.Core.Path.{◌≡◌}
 use mathlib.Core.Bool.{false}
-use Prim.Native.Nat.{ℕ, ◌≤◌, ◌<◌, ◌-◌}
-use Rattle.session_file.specs.Sizes.{rows_of}
+use Prim.Native.Nat.{ℕ, ◌<◌}
 use Rattle.session_writer.proofs.Rows.{pair_fault}
 use Rattle.session_rows.proofs.rows_fault.Given as goal
 
 abbrev pub invariant-loop-r : goal.invariant-loop-r
-invariant-loop-r l = (l.r ≤ rows_of l.sizes) × ((k : ℕ) → k < l.r → pair_fault l.sizes l.n l.keys l.values l.p k ≡ false)
-
-abbrev pub decreases-loop-r : goal.decreases-loop-r
-decreases-loop-r l = rows_of l.sizes - l.r
+invariant-loop-r l = (k : ℕ) → k < l.r → pair_fault l.sizes l.n l.keys l.values l.p k ≡ false

@@ -1,6 +1,6 @@
 -- `session_walk::at_most` meets its contract: a match on what stands there, as in the definition. Assumes nothing.
+use Rattle.std.specs.Prelude.{Err}
 use mathlib.Core.Path.{sym, ap, ◌∙◌}
-use Rattle.session_file.specs.declared.Reading.TheVariants.{NotRead}
 use Rattle.call.specs.declared.Refusal.TheVariants.{Record}
 use Rattle.session_file.specs.Reader.{at_most}
 use Rattle.session_file.proofs.Nexts.{walk_end}
@@ -14,7 +14,7 @@ returns-in-Ended c =
 pub returns-in-Wrong : goal.returns-in-Wrong
 returns-in-Wrong c =
     let s = c.args in
-    (λ j. NotRead (Record (c.record_start-byte.ensures j)))
+    (λ j. Err (Record (c.record_start-byte.ensures j)))
     ∙ ap (at_most s.sizes 2048) (sym c.in-Wrong.is ∙ c.next.ensures)
     ∙ sym (walk_end s.sizes s.file.now 2048)
 

@@ -1,10 +1,10 @@
+use Rattle.std.specs.Prelude.{Err}
 use mathlib.Core.Path.{◌≡◌, refl, sym, ap, ◌∙◌}
 use mathlib.Core.Bool.{Bool}
 use Prim.Native.Nat.{ℕ, ◌+◌, ◌-◌}
 use native.Mathlib.Omega.{arith}
 use Rattle.session_file.specs.declared.Next.{Next}
 use Rattle.session_file.specs.declared.Next.TheVariants.{Ended, Wrong, Cut, Whole}
-use Rattle.session_file.specs.declared.Reading.TheVariants.{NotRead}
 use Rattle.call.specs.declared.Refusal.TheVariants.{Record}
 use Rattle.session_file.specs.Reader.{position_fault, onward, walk_from}
 use Rattle.session_file.proofs.Walks.{whole→record}
@@ -22,7 +22,7 @@ by_next c k b e f =
     let p = c.loop-p.p in
     let rest = walk_from s.sizes s.file.now (2048 - (p + 1)) (p + 1) in
     sym (
-    c.loop-p.invariant.1
+    c.loop-p.invariant
     ∙ walk_on s.sizes s.file.now p c.loop-p-test.true
     ∙ (λ j. onward s.sizes p ((sym c.next.ensures ∙ e) j) (f j) rest)
     )
@@ -30,7 +30,7 @@ by_next c k b e f =
 pub position_fault-requires : goal.position_fault-requires
 position_fault-requires c =
     let w = whole→record c.args.sizes c.args.file.now c.loop-p.p (sym c.next.ensures ∙ c.in-Whole.is) in
-    record { sizes_value = c.requires; p_bound = c.loop-p.invariant.0; sizes_in_bounds = w.1 }
+    record { sizes_value = c.requires; p_bound = omega arith; sizes_in_bounds = w.1 }
 
 pub returns-then-position_fault : goal.returns-then-position_fault
 returns-then-position_fault c =
@@ -38,11 +38,11 @@ returns-then-position_fault c =
 
 pub loop-p-preserved : goal.loop-p-preserved
 loop-p-preserved c =
-    (omega arith, sym (by_next (goal.at.loop-p-preserved c).After-next Whole _ c.in-Whole.is (sym c.position_fault.ensures ∙ c.if-position_fault.false)))
+    sym (by_next (goal.at.loop-p-preserved c).After-next Whole _ c.in-Whole.is (sym c.position_fault.ensures ∙ c.if-position_fault.false))
 
 pub returns-in-Wrong : goal.returns-in-Wrong
 returns-in-Wrong c =
-    (λ j. NotRead (Record (c.record_start-byte.ensures j)))
+    (λ j. Err (Record (c.record_start-byte.ensures j)))
     ∙ by_next (goal.at.returns-in-Wrong c).After-next Wrong _ c.in-Wrong.is refl
 
 pub returns-in-Ended : goal.returns-in-Ended
@@ -55,4 +55,4 @@ pub returns : goal.returns
 returns c =
     let s = c.args in
     let p : c.loop-p.p ≡ 2048 = omega arith in
-    c.at_most.ensures ∙ sym (c.loop-p.invariant.1 ∙ ap (λ (n : ℕ). walk_from s.sizes s.file.now (2048 - n) n) p)
+    c.at_most.ensures ∙ sym (c.loop-p.invariant ∙ ap (λ (n : ℕ). walk_from s.sizes s.file.now (2048 - n) n) p)

@@ -1,48 +1,36 @@
-use mathlib.Core.Path.{◌≡◌, refl, sym, ap, ◌∙◌, subst}
-use mathlib.Core.Bool.{Bool}
-use Prim.Native.Nat.{ℕ}
-use native.Mathlib.Numerals.{add-one}
-use native.Mathlib.Omega.{arith}
-use lib.Dec.{T}
-use lib.ListN.{length}
+use Rattle.std.proofs.Common.{◌≡◌, refl, ap, ◌∙◌, length, add-one, arith}
 use lib.Ieee.{Float, lt, neg, of_bits, nan_bits}
 use Rattle.softmax.specs.Row.{greater, largest_of}
-use Rattle.softmax.specs.Lists.{element_of, score_or_hidden, largest_row_of}
-use Rattle.softmax.proofs.Scores.{is_finite_or_none, score_at_lem, next_largest, next_finite}
+use Rattle.softmax.specs.Lists.{element_of, largest_row_of}
+use Rattle.softmax.proofs.Scores.{score_at_lem, next_largest, next_finite}
 use Rattle.softmax_row.proofs.largest.Invariants.{firsts_of}
 use Rattle.softmax_row.proofs.largest.Goals as goal
-use Rattle.softmax_row.proofs.largest.Goals.{then-m-row, else-m-row}
+use Rattle.softmax_row.proofs.largest.Goals.{then-m-x, else-m-x}
 
 pub float_from_bits-m : goal.float_from_bits-m
 unfolding nan_bits
 float_from_bits-m c = tt
 
-pub loop-i-init : goal.loop-i-init
+pub loop-x-init : goal.loop-x-init
 unfolding neg of_bits largest_of
-loop-i-init c = (omega arith, refl, tt)
+loop-x-init c = (refl, tt)
 
-pub loop-i-preserved : goal.loop-i-preserved
+pub loop-x-preserved : goal.loop-x-preserved
 unfolding largest_of
-loop-i-preserved c =
+loop-x-preserved c =
     let row = c.args.row.now in
-    let i = c.loop-i.i in
+    let i = c.loop-x.x-index in
     let x = element_of row i in
     let score = score_at_lem row c.requires i (omega arith) in
-    let chosen : c.if-m-row.m ≡ greater (lt c.loop-i.m x) c.loop-i.m x = elim c.if-m-row.branch [
-      | then-m-row w ↦ w.m-is ∙ ap (λ (b : Bool). greater b c.loop-i.m x) (sym w.if-m-row.true)
-      | else-m-row w ↦ w.m-is ∙ ap (λ (b : Bool). greater b c.loop-i.m x) (sym w.if-m-row.false)
-    ] in (
-      omega arith,
-      chosen
-          ∙ ap (λ (m : Float). greater (lt m x) m x) c.loop-i.invariant.1
-          ∙ next_largest (firsts_of row i) x c.loop-i.invariant.2 score
-          ∙ ap (λ (n : ℕ). score_or_hidden (firsts_of row n)) (sym (add-one i)),
-      subst (λ (n : ℕ). T (is_finite_or_none (firsts_of row n))) (sym (add-one i)) (next_finite (firsts_of row i) x c.loop-i.invariant.2 score),
+    let chosen : c.if-m-x.m ≡ greater (lt c.loop-x.m x) c.loop-x.m x = elim c.if-m-x.branch [
+      | then-m-x w ↦ rw w.if-m-x.true w.m-is
+      | else-m-x w ↦ rw w.if-m-x.false w.m-is
+    ] in
+    rw add-one (
+      chosen ∙ ap (λ (m : Float). greater (lt m x) m x) c.loop-x.invariant.0 ∙ next_largest (firsts_of row i) x c.loop-x.invariant.1 score,
+      next_finite (firsts_of row i) x c.loop-x.invariant.1 score,
     )
 
 pub returns : goal.returns
 unfolding largest_row_of
-returns c =
-    let row = c.args.row.now in
-    let all : c.loop-i.i ≡ length row = omega arith in
-    c.loop-i.invariant.1 ∙ ap (λ (n : ℕ). score_or_hidden (firsts_of row n)) all
+returns c = let e : c.loop-x.x-index ≡ length c.args.row.now = omega arith in cc

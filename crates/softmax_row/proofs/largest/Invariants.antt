@@ -1,9 +1,8 @@
--- `softmax_row::largest` meets its contract. The loop's invariant: m is the largest of the first i elements, minus infinity where all of them are hidden, and finite otherwise. Assumes nothing.
+-- `softmax_row::largest` meets its contract. The loop's invariant: m is the largest of the first elements, minus infinity where all of them are hidden, and finite otherwise. Assumes nothing.
 use mathlib.Core.Path.{◌≡◌}
-use Prim.Native.Nat.{ℕ, ◌≤◌, ◌-◌}
+use Prim.Native.Nat.{ℕ}
 use mathlib.Core.List.{List}
 use lib.Dec.{T}
-use lib.ListN.{length}
 use lib.Ieee.{Float}
 use Rattle.softmax.specs.Row.{Largest, largest_of}
 use Rattle.softmax.specs.Lists.{element_of, sees_of, score_or_hidden}
@@ -14,8 +13,5 @@ use Rattle.softmax_row.proofs.largest.Given as goal
 abbrev pub firsts_of : List Float → ℕ → Largest
 firsts_of row n = largest_of n (sees_of row) (element_of row)
 
-abbrev pub invariant-loop-i : goal.invariant-loop-i
-invariant-loop-i l = (l.i ≤ length l.row) × (l.m ≡ score_or_hidden (firsts_of l.row l.i)) × T (is_finite_or_none (firsts_of l.row l.i))
-
-abbrev pub decreases-loop-i : goal.decreases-loop-i
-decreases-loop-i l = length l.row - l.i
+abbrev pub invariant-loop-x : goal.invariant-loop-x
+invariant-loop-x l = (l.m ≡ score_or_hidden (firsts_of l.row l.x-index)) × T (is_finite_or_none (firsts_of l.row l.x-index))

@@ -1,8 +1,4 @@
--- `softmax_sum::accumulate` meets its contract. The loop's invariant: weight * value is added in the columns before c, the others are as they were.
-use mathlib.Core.Path.{◌≡◌}
-use Prim.Native.Nat.{ℕ, ◌≤◌, ◌-◌}
-use mathlib.Core.List.{List}
-use lib.ListN.{length}
+use Rattle.std.proofs.Common.{◌≡◌, ℕ, List}
 use lib.Ieee.{Float, binary32, add, mul}
 use Rattle.tensor_laws.proofs.InPlace.{indexed_to}
 use Rattle.softmax.specs.Lists.{element_of}
@@ -13,7 +9,4 @@ abbrev pub each_of : Float → List Float → ℕ → Float → Float
 each_of weight value c x = add binary32 x (mul binary32 weight (element_of value c))
 
 abbrev pub invariant-loop-c : goal.invariant-loop-c
-invariant-loop-c l = (l.c ≤ length l.initial.out) × (l.out ≡ indexed_to (each_of l.weight l.value) l.c l.initial.out)
-
-abbrev pub decreases-loop-c : goal.decreases-loop-c
-decreases-loop-c l = length l.initial.out - l.c
+invariant-loop-c l = l.out ≡ indexed_to (each_of l.weight l.value) l.c l.initial.out

@@ -3,4 +3,4 @@ use Rattle.session_interface.proofs.Savings.{saved_is}
 use Rattle.klaverdomp.proofs.sessions.klaverdomp_session_begin_1.Goals as goal
 
 pub returns : goal.returns
-returns c = let a = c in saved_is c.report_saving-given.result a.begin-saving.result _ _ c.report_saving-given.ensures a.begin-saving.ensures
+returns c = saved_is _ c.begin-saving.result _ _ c.tell_saving.ensures c.begin-saving.ensures

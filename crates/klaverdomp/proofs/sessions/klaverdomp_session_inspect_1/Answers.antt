@@ -4,8 +4,8 @@ use Rattle.session_file.specs.Numbers.{reading_report}
 use Rattle.session_interface.proofs.Readings.{read→holds}
 use Rattle.klaverdomp.proofs.sessions.klaverdomp_session_inspect_1.Goals as goal
 
-pub report_reading-given-requires : goal.report_reading-given-requires
-report_reading-given-requires c = read→holds c.args.file.now c.inspect.result c.inspect.ensures
+pub tell_reading-requires : goal.tell_reading-requires
+tell_reading-requires c = read→holds c.args.file.now c.inspect-reading.result c.inspect-reading.ensures
 
 pub returns : goal.returns
-returns c = c.report_reading-given.ensures ∙ ap reading_report c.inspect.ensures
+returns c = c.tell_reading.ensures ∙ ap reading_report c.inspect-reading.ensures
