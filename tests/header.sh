@@ -1,7 +1,7 @@
 #!/usr/bin/env bash
 # The header compiles without a warning as C99 and as C++, programs that call each of its functions end with status 0 from either, and so
 # do the worked examples, of which one does not write a file that is locked. A program that calls a function of a former edition does not
-# link.
+# link. The library needs no name from outside but `memset`.
 # KLAVERDOMP_LIB_DIR names a folder with libklaverdomp.a; without it the static library is made where it is missing.
 set -eu
 cd "$(dirname "$0")/.."
@@ -11,6 +11,9 @@ trap 'rm -rf "$made"' EXIT
 flags="-O2 -Wall -Wextra -Wpedantic -Werror -Iinclude"
 library=${KLAVERDOMP_LIB_DIR:-target/staticlib}/libklaverdomp.a
 [ -f "$library" ] || tools/static_library.sh
+
+needs=$(nm -u "$library" | awk '$1 == "U" { print $2 }' | sort -u)
+[ "$needs" = memset ] || { echo "header: the library needs from outside:" $needs; exit 1; }
 
 for program in header header_sessions; do
     gcc -std=c99 $flags -o "$made/${program}_c" "tests/$program.c" "$library"

@@ -17,7 +17,7 @@ fn digest_with(digest: u32, x: &f32) -> u32 {
 }
 
 // The refusal's number, the tensor and the index at fault, T and the number of fully masked rows (blind rows).
-#[derive(Drop)]
+#[derive(Clone, Copy)]
 pub struct Report(pub Numbers);
 
 impl Display for Report {
@@ -34,7 +34,7 @@ impl Display for Report {
 }
 
 // The bits of every element; of more than 64 elements their number and a digest of the bits.
-#[derive(Drop)]
+#[derive(Clone, Copy)]
 pub struct Bits<'a>(pub &'a [f32]);
 
 impl Display for Bits<'_> {

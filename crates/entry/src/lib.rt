@@ -50,7 +50,7 @@ pub fn attention(
 ) -> Result<Done, Refusal>
     ensures { outcome_of result (outputs_after output presentkey presentvalue scores work) ≡ attention_of call (lent_given inputs) (outputs_before output presentkey presentvalue scores work) }
 {
-    refusals::verdict(
+    let verdict = refusals::verdict(
         call,
         inputs,
         output.len(),
@@ -58,6 +58,10 @@ pub fn attention(
         presentvalue.len(),
         scores.len(),
         work.len(),
-    )?;
-    Ok(attend(call, inputs, output, presentkey, presentvalue, scores, work))
+    );
+    // No `?`: an edit gives another refusal in the second arm, and the contract refuses it; over a `?` it would be refused for the names of the proof alone.
+    match verdict {
+        Ok(()) => Ok(attend(call, inputs, output, presentkey, presentvalue, scores, work)),
+        Err(refusal) => Err(refusal),
+    }
 }

@@ -42,3 +42,13 @@ told valued value = record { valued = valued; value = value }
 abbrev pub value_told : Option Float → Told
 value_told (Some x) = told 1 x
 value_told None = told 0 plus_zero
+
+-- of E, of the power table and of the default scale
+abbrev pub exponential_told : Option Float → Told
+exponential_told value = value_told value
+
+abbrev pub power_told : Option Float → Told
+power_told entry = value_told entry
+
+abbrev pub scale_told : Option Float → Told
+scale_told scale = value_told scale

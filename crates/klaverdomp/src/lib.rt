@@ -14,7 +14,7 @@ ghost use Rattle.tables.specs.Scale.{default_scale_of};
 ghost use Rattle.exponential.specs.ExpNeg.{exp_neg_of, exp_neg_row_of};
 ghost use Rattle.call.specs.Answers.{report_of};
 ghost use Rattle.interface.specs.Record.{call_of};
-ghost use Rattle.interface.specs.Returned.{returned_of, told, value_told, reported_by, returned_by};
+ghost use Rattle.interface.specs.Returned.{returned_of, told, value_told, exponential_told, power_told, scale_told, reported_by, returned_by};
 
 use call::{Done, LentInputs, Refusal};
 
@@ -123,7 +123,7 @@ fn tell(value: Option<f32>, to: &mut f32) -> u32
 
 // E(d): 1 and the value, or 0 and +0 where it has none.
 pub fn klaverdomp_exp_neg_1(d: f32, value: &mut f32) -> u32
-    ensures { told result value.new ≡ value_told (exp_neg_of d) }
+    ensures { told result value.new ≡ exponential_told (exp_neg_of d) }
 {
     tell(exponential_number::exp_neg(d), value)
 }
@@ -137,14 +137,14 @@ pub fn klaverdomp_exp_neg_row_1(row: &mut [f32], largest: f32)
 
 // The entry of the power table at an index below 256: 1 and the value, or 0 and +0 at any other.
 pub fn klaverdomp_power_entry_1(index: u64, value: &mut f32) -> u32
-    ensures { told result value.new ≡ value_told (power_entry_of index) }
+    ensures { told result value.new ≡ power_told (power_entry_of index) }
 {
     tell(tables::power_entry(index as usize), value)
 }
 
 // The default scale of a head size from 1 to 256: 1 and the value, or 0 and +0 of any other.
 pub fn klaverdomp_default_scale_1(size: u64, value: &mut f32) -> u32
-    ensures { told result value.new ≡ value_told (default_scale_of size) }
+    ensures { told result value.new ≡ scale_told (default_scale_of size) }
 {
     tell(tables::default_scale(size as usize), value)
 }

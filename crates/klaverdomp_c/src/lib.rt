@@ -13,7 +13,7 @@ ghost use Rattle.tables.specs.Power.{power_entry_of};
 ghost use Rattle.tables.specs.Scale.{default_scale_of};
 ghost use Rattle.exponential.specs.ExpNeg.{exp_neg_of, exp_neg_row_of};
 ghost use Rattle.interface.specs.Record.{call_of};
-ghost use Rattle.interface.specs.Returned.{returned_of, told, value_told, returned_by};
+ghost use Rattle.interface.specs.Returned.{returned_of, told, exponential_told, power_told, scale_told, returned_by};
 
 // Attention. The result is 0 for done and else the number of the refusal; the four numbers behind it are always written.
 #[unsafe(no_mangle)]
@@ -110,7 +110,7 @@ pub extern "C" fn klaverdomp_step_3<'a>(
 // E(d): 1 and the value, or 0 and +0 where it has none.
 #[unsafe(no_mangle)]
 pub extern "C" fn klaverdomp_exp_neg_1(d: f32, value: &mut f32) -> u32
-    ensures { told result value.new ≡ value_told (exp_neg_of d) }
+    ensures { told result value.new ≡ exponential_told (exp_neg_of d) }
 {
     klaverdomp::klaverdomp_exp_neg_1(d, value)
 }
@@ -126,7 +126,7 @@ pub extern "C" fn klaverdomp_exp_neg_row_1(row: &mut [f32], largest: f32)
 // The entry of the power table at an index below 256: 1 and the value, or 0 and +0 at any other.
 #[unsafe(no_mangle)]
 pub extern "C" fn klaverdomp_power_entry_1(index: u64, value: &mut f32) -> u32
-    ensures { told result value.new ≡ value_told (power_entry_of index) }
+    ensures { told result value.new ≡ power_told (power_entry_of index) }
 {
     klaverdomp::klaverdomp_power_entry_1(index, value)
 }
@@ -134,7 +134,7 @@ pub extern "C" fn klaverdomp_power_entry_1(index: u64, value: &mut f32) -> u32
 // The default scale of a head size from 1 to 256: 1 and the value, or 0 and +0 of any other.
 #[unsafe(no_mangle)]
 pub extern "C" fn klaverdomp_default_scale_1(size: u64, value: &mut f32) -> u32
-    ensures { told result value.new ≡ value_told (default_scale_of size) }
+    ensures { told result value.new ≡ scale_told (default_scale_of size) }
 {
     klaverdomp::klaverdomp_default_scale_1(size, value)
 }

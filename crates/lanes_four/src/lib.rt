@@ -5,26 +5,16 @@ ghost use Rattle.std.specs.Prelude.{◌≡◌, ◌++◌, ◌+◌, ◌*◌, ◌�
 ghost use Rattle.tensor_laws.specs.Layout.{tabulate};
 ghost use Rattle.lanes.specs.Sums.{lane_at};
 
-// A row becomes another of its length, element by element: with `copy_from_slice` the lanes of a key stay in memory, and the scores of a row take an eighth more instructions.
-fn copy_lanes(from: &[f32], to: &mut [f32])
-    requires { length to.old ≡ length from.now }
-    ensures { to.new ≡ from.now }
-{
-    for (l, x) in to.iter_mut().enumerate() {
-        *x = from[l];
-    }
-}
-
 // Four rows of four elements, one after the other.
 fn store_four(a: &[f32], b: &[f32], c: &[f32], d: &[f32], out: &mut [f32])
     requires a_len { (length a.now ≡ 4) × (length b.now ≡ 4) × (length c.now ≡ 4) × (length d.now ≡ 4) }
     requires out_len { length out.old ≡ 16 }
     ensures { out.new ≡ a.now ++ (b.now ++ (c.now ++ d.now)) }
 {
-    copy_lanes(a, &mut out[0..4]);
-    copy_lanes(b, &mut out[4..8]);
-    copy_lanes(c, &mut out[8..12]);
-    copy_lanes(d, &mut out[12..16]);
+    row_copies::copy_row(a, &mut out[0..4]);
+    row_copies::copy_row(b, &mut out[4..8]);
+    row_copies::copy_row(c, &mut out[8..12]);
+    row_copies::copy_row(d, &mut out[12..16]);
 }
 
 // The lanes of four keys over as many fours of the row's elements as are asked for; the row of key j starts at j * stride. Four keys hide each other's latency.

@@ -12,10 +12,12 @@ pub fn fill_row(row: &mut [f32], x: f32)
     }
 }
 
-// The elements become those of another row of the same length.
+// The elements become those of another row of the same length. No `copy_from_slice`: of a length that is not known it is a call of `memmove`, and the archive for C would need it from outside.
 pub fn copy_row(from: &[f32], to: &mut [f32])
     requires { length to.old ≡ length from.now }
     ensures { to.new ≡ from.now }
 {
-    to.copy_from_slice(from);
+    for (i, x) in to.iter_mut().enumerate() {
+        *x = from[i];
+    }
 }

@@ -3,12 +3,24 @@
 
 ghost use Rattle.std.specs.Prelude.{◌≡◌, ◌+◌, ◌<◌, true};
 ghost use Rattle.call.specs.Limits.{limits_hold, mask_shape_holds};
-ghost use Rattle.attention.specs.Admission.{repeated};
+ghost use Rattle.attention.specs.Admission.{reach, repeated};
 ghost use Rattle.row_steps.specs.Steps.{visible_of, mask_start};
 
-use call::{Call, MaskKind};
+use call::{Call, Form, MaskKind};
 
-// How many positions, from 0, row i may see: those below the live count and, when causal, up to the last causal one, which is P + i in every form.
+// How far row i reaches when the call is causal: P + i in every form.
+fn reach(call: Call, live: usize, i: usize) -> usize
+    requires { call.past + i < 4096 }
+    ensures { result ≡ reach call.form call.past live i }
+{
+    match call.form {
+        Form::Plain => call.past + i,
+        Form::Cached => call.past + i,
+        Form::Counted => call.past + i,
+    }
+}
+
+// How many positions, from 0, row i may see: those below the live count and, when causal, up to the last causal one.
 #[tactic(auto, using(attention::proofs::Reached::reach_is))]
 pub fn visible(call: Call, live: usize, i: usize) -> usize
     requires { call.past + i < 4096 }
@@ -17,7 +29,7 @@ pub fn visible(call: Call, live: usize, i: usize) -> usize
     if call.causal == 0 {
         return live;
     }
-    live.min(call.past + i + 1)
+    live.min(reach(call, live, i) + 1)
 }
 
 // x, and 0 in a dimension of 1, which is repeated.

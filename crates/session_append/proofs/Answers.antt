@@ -1,6 +1,6 @@
 -- What adding positions answers, test by test in the definition's order, and what it leaves in the buffer. Assumes nothing.
-use Rattle.std.specs.Prelude.{Some, None, Err}
-use mathlib.Core.Path.{◌≡◌, refl, ap, ◌∙◌}
+use Rattle.std.specs.Prelude.{Option, Some, None, Ok, Err}
+use mathlib.Core.Path.{◌≡◌, refl, sym, ap, ◌∙◌}
 use mathlib.Core.Bool.{true, false}
 use mathlib.Core.List.{List}
 use Prim.Native.Nat.{ℕ, ◌+◌, ◌-◌, ◌*◌, ◌≤◌, ◌<◌}
@@ -17,6 +17,8 @@ use Rattle.records.proofs.Fronts.{written_part}
 use Rattle.session_file.specs.declared.Sizes.{Sizes}
 use Rattle.call.specs.declared.Refusal.{Refusal}
 use Rattle.call.specs.declared.Refusal.TheVariants.{Limits, InputLength, Position, Room}
+use Rattle.call.specs.Refusals.{Verdict, where_found}
+use Rattle.call.proofs.FirstLink.{refused_not_accepted, same_refusal}
 use Rattle.session_file.specs.Reader.{Reading, session_read}
 use Rattle.session_file.specs.Below.{least_from, joined}
 use Rattle.session_file.specs.Sizes.{sizes_hold, rows_of, record_length, record_start}
@@ -38,6 +40,21 @@ caches_fit_lem z n keys values l h e =
       keys_length = eqb-true keys (rows_of z * n * z.size) t.0;
       values_length = eqb-true values (rows_of z * n * z.vsize) t.1;
     }
+
+-- ---- what the verdict on what was found says
+
+-- where it accepts, nothing was found
+accepted_none : (f : Option ℕ) (r : ℕ → Refusal) (u : Unit {0}) → where_found f r ≡ Ok u → f ≡ None
+accepted_none None r u e = refl
+accepted_none (Some p) r u e = elim (refused_not_accepted {a = r p} e) [ ]
+
+pub none_found : {f g : Option ℕ} {v : Verdict} (r : ℕ → Refusal) (u : Unit {0}) → f ≡ g → v ≡ where_found f r → v ≡ Ok u → g ≡ None
+none_found {f = f} r u e is was = sym e ∙ accepted_none f r u (sym is ∙ was)
+
+-- where it refuses, that was found at a place
+refused_some : (f : Option ℕ) (r : ℕ → Refusal) (a : Refusal) → where_found f r ≡ Err a → (p : ℕ) × (f ≡ Some p) × (a ≡ r p)
+refused_some None r a e = elim (refused_not_accepted {a = a} (sym e)) [ ]
+refused_some (Some p) r a e = (p, refl, sym (same_refusal e))
 
 -- ---- the place of the new records
 
@@ -62,6 +79,13 @@ module _ (z : Sizes) (n : ℕ) (buffer : List ℕ) (count : ℕ) (keys values : 
       pub wrong_element : (p : ℕ) → least_from (rows_fault (session_of z count keys values)) count 0 ≡ Some p → refused_with (Position (n + p)) buffer ≡ appended_to (session_read z n) buffer count keys values
       unfolding appended_to written_behind
       wrong_element p f = rw (le-leb (n + count) 2048 h, e, f)
+
+      -- so the verdict on what was found is the answer
+      pub position_refused : (f : Option ℕ) (v : Verdict) (a : Refusal) → f ≡ least_from (rows_fault (session_of z count keys values)) count 0 → v ≡ where_found f (λ p. Position (n + p)) → v ≡ Err a
+          → refused_with a buffer ≡ appended_to (session_read z n) buffer count keys values
+      position_refused f v a g is was =
+          let s = refused_some f (λ p. Position (n + p)) a (sym is ∙ was) in
+          ap (λ (b : Refusal). refused_with b buffer) s.2 ∙ wrong_element s.0 (sym g ∙ s.1)
 
       -- none was found
       module _ (f : least_from (rows_fault (session_of z count keys values)) count 0 ≡ None) where

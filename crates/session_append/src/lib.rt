@@ -1,13 +1,28 @@
 // Adds positions to the file of a saved session, all of them or none. `append` takes any numbers and any buffer.
 #![tactic(auto)]
 
-ghost use Rattle.std.specs.Prelude.{◌≡◌, true, ◌≤◌};
+ghost use Rattle.std.specs.Prelude.{◌≡◌, ℕ, Some, true, ◌+◌, ◌≤◌};
+ghost use Rattle.call.specs.Refusals.{where_found};
+ghost use Rattle.call.specs.declared.Refusal.TheVariants.{Position};
 ghost use Rattle.session_file.specs.Sizes.{sizes_hold};
 ghost use Rattle.session_file.specs.Reader.{session_read};
 ghost use Rattle.session_file.specs.Writer.{written, appended_to, append_of};
 
 use call::Refusal;
 use session_file::{Saved, Sizes};
+
+// The verdict on the added positions, by the first at fault; the position in the file is told.
+fn position_verdict(found: Option<usize>, n: usize) -> Result<(), Refusal>
+    requires { (p : ℕ) → found ≡ Some p → n + p ≤ 4096 }
+    ensures { result ≡ where_found found (λ p. Position (n + p)) }
+{
+    match found {
+        Some(fault) => Err(Refusal::Position {
+            position: n + fault,
+        }),
+        None => Ok(()),
+    }
+}
 
 // Positions behind the last whole record of a file that has n whole positions of those sizes.
 fn append_to(
@@ -28,10 +43,7 @@ fn append_to(
     if !session_sizes::caches_fit(sizes, count, keys.len(), values.len()) {
         return Err(Refusal::InputLength);
     }
-    if let Some(fault) = session_rows::first_fault(keys, values, sizes, count) {
-        let position = n + fault;
-        return Err(Refusal::Position { position });
-    }
+    position_verdict(session_rows::first_fault(keys, values, sizes, count), n)?;
     let from = session_sizes::record_start(sizes, n);
     let to = session_sizes::record_start(sizes, n + count);
     if buffer.len() < to {

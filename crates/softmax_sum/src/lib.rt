@@ -9,9 +9,9 @@ fn accumulate(out: &mut [f32], weight: f32, value: &[f32])
     requires { length value.now ≡ length out.old }
     ensures { out.new ≡ accumulated_row_of weight value.now out.old }
 {
-    // `out.iter_mut().zip(value)` was tried: over an adapter of `iter_mut` the proof does not learn what stands in the row afterwards.
-    for (c, o) in out.iter_mut().enumerate() {
-        *o += weight * value[c];
+    // By index: after `out.iter_mut().zip(value)` the proof does not know what stands in the row, and over `enumerate()` no edit can leave out a column.
+    for c in 0..out.len() {
+        out[c] += weight * value[c];
     }
 }
 

@@ -25,13 +25,14 @@ pub fn weighted_columns(weights: &[f32], values: &[f32], stride: usize, out: &mu
         return;
     }
     let n = out.len();
-    // By index: over `chunks_exact_mut` the proof does not learn what stands in the row afterwards.
+    // By index: over `chunks_mut` the proof does not learn what stands in the row afterwards.
     for block in 0..n / 16 {
         let c = block * 16;
         sixteen_columns(weights, &values[c..], stride, &mut out[c..c + 16]);
     }
-    let c = n / 16 * 16;
-    if c < n {
+    // The columns that are left are one block more, or none. As a loop: where the compiler knows that they are below sixteen, they are not packed.
+    for block in n / 16..n.div_ceil(16) {
+        let c = block * 16;
         softmax_sum::weighted_rows(weights, &values[c..], stride, &mut out[c..]);
     }
 }

@@ -9,8 +9,16 @@ pub fn weighted_rows(weights: &[f32], values: &[f32], stride: usize, out: &mut [
     requires { (j : ℕ) → j < length weights.now → j * stride + length out.old ≤ length values.now }
     ensures { out.new ≡ weighted_rows_of weights.now values.now stride out.old }
 {
-    for (block, given) in weights.chunks(32).enumerate() {
-        let at = block * 32 * stride;
-        weighted_columns::weighted_columns(given, &values[at..], stride, out);
+    let n = weights.len();
+    // By number: the blocks and the rest behind them are read by a call each.
+    for block in 0..n / 32 {
+        let j = block * 32;
+        let at = j * stride;
+        weighted_columns::weighted_columns(&weights[j..j + 32], &values[at..], stride, out);
+    }
+    let j = n / 32 * 32;
+    if j < n {
+        let at = j * stride;
+        weighted_columns::weighted_columns(&weights[j..], &values[at..], stride, out);
     }
 }

@@ -1,5 +1,7 @@
 -- `session_append::append_to` meets its contract: its tests are the definition's, in its order, and the part of the buffer that it lends comes back with the new records. Assumes nothing.
-use mathlib.Core.Path.{◌≡◌, sym, ◌∙◌}
+use Rattle.std.specs.Prelude.{Err}
+use Rattle.std.proofs.lemmas.Result.{err_from_is_err_and}
+use mathlib.Core.Path.{◌≡◌, sym, ap, ◌∙◌}
 use mathlib.Core.Bool.{Bool, true}
 use Prim.Native.Nat.{ℕ, ◌+◌, ◌-◌, ◌≤◌}
 use native.Mathlib.Omega.{arith}
@@ -10,10 +12,10 @@ use Rattle.tensor_laws.proofs.Parts.{length_part}
 use Rattle.session_file.specs.declared.Sizes.{Sizes}
 use Rattle.session_file.specs.Form.{session_of}
 use Rattle.session_file.specs.Reader.{caches_fit}
-use Rattle.session_file.specs.Writer.{rows_fault}
+use Rattle.session_file.specs.Writer.{written, rows_fault}
 use Rattle.session_writer.specs.Fits.{CachesFit}
 use Rattle.session_writer.proofs.Counts.{found_below, none_clear}
-use Rattle.session_append.proofs.Answers.{caches_fit_lem, new_length, too_many, wrong_lengths, wrong_element, no_room, all_saved}
+use Rattle.session_append.proofs.Answers.{caches_fit_lem, new_length, none_found, too_many, wrong_lengths, position_refused, no_room, all_saved}
 use Rattle.session_append.proofs.append_to.Goals as goal
 use Rattle.session_append.proofs.append_to.Goals.{Else-n-count, Else-not-caches_fit}
 
@@ -42,19 +44,21 @@ returns-then-not-caches_fit c =
     let a = c.args in
     wrong_lengths a.sizes a.n a.buffer.now a.count a.keys.now a.values.now (few (goal.at.returns-then-not-caches_fit c).Else-n-count) (sym c.caches_fit.ensures ∙ c.if-not-caches_fit.true)
 
-pub overflow_add-position : goal.overflow_add-position
-overflow_add-position c =
-    omega (arith, found_below (fault_at c.args.sizes c.args.count c.args.keys.now c.args.values.now) c.args.count 0 c.in-Some.fault (sym c.first_fault.ensures ∙ c.in-Some.is), c.if-n-count.false, c.requires.n_bound)
+pub position_verdict-requires : goal.position_verdict-requires
+position_verdict-requires c p f =
+    omega (arith, found_below (fault_at c.args.sizes c.args.count c.args.keys.now c.args.values.now) c.args.count 0 p (sym c.first_fault.ensures ∙ f), c.if-n-count.false, c.requires.n_bound)
 
-pub returns-in-Some : goal.returns-in-Some
-returns-in-Some c =
+pub returns-in_err-position_verdict : goal.returns-in_err-position_verdict
+returns-in_err-position_verdict c =
     let a = c.args in
-    wrong_element a.sizes a.n a.buffer.now a.count a.keys.now a.values.now (few (goal.at.returns-in-Some c).Else-n-count) (fit (goal.at.returns-in-Some c).Else-not-caches_fit).0 c.in-Some.fault (sym c.first_fault.ensures ∙ c.in-Some.is)
+    let v = err_from_is_err_and _ c.from_residual.ensures.1 in
+    (λ i. written ((v.1 ∙ ap Err v.2) i) a.buffer.now)
+    ∙ position_refused a.sizes a.n a.buffer.now a.count a.keys.now a.values.now (few (goal.at.returns-in_err-position_verdict c).Else-n-count) (fit (goal.at.returns-in_err-position_verdict c).Else-not-caches_fit).0 _ _ _ c.first_fault.ensures c.position_verdict.ensures c.in_err-position_verdict.was
 
 pub returns-then-buffer-to : goal.returns-then-buffer-to
 returns-then-buffer-to c =
     let a = c.args in
-    no_room a.sizes a.n a.buffer.now a.count a.keys.now a.values.now (few (goal.at.returns-then-buffer-to c).Else-n-count) (fit (goal.at.returns-then-buffer-to c).Else-not-caches_fit).0 (sym c.first_fault.ensures ∙ c.in_default.is) (omega (arith, c.record_start-to.ensures, c.if-buffer-to.true))
+    no_room a.sizes a.n a.buffer.now a.count a.keys.now a.values.now (few (goal.at.returns-then-buffer-to c).Else-n-count) (fit (goal.at.returns-then-buffer-to c).Else-not-caches_fit).0 (none_found _ _ c.first_fault.ensures c.position_verdict.ensures c.in_ok-position_verdict.was) (omega (arith, c.record_start-to.ensures, c.if-buffer-to.true))
 
 pub write_positions-requires : goal.write_positions-requires
 write_positions-requires c =
@@ -63,11 +67,11 @@ write_positions-requires c =
     let l = new_length c.args.sizes c.args.n c.args.count from to c.record_start-from.ensures c.record_start-to.ensures in
     record {
       caches_fit = (fit (goal.at.write_positions-requires c).Else-not-caches_fit).1;
-      by_index = none_clear (fault_at c.args.sizes c.args.count c.args.keys.now c.args.values.now) c.args.count (sym c.first_fault.ensures ∙ c.in_default.is);
+      by_index = none_clear (fault_at c.args.sizes c.args.count c.args.keys.now c.args.values.now) c.args.count (none_found _ _ c.first_fault.ensures c.position_verdict.ensures c.in_ok-position_verdict.was);
       bytes_len = length_part from (to - from) c.args.buffer.now (omega (arith, l.0, c.if-buffer-to.false)) ∙ l.1;
     }
 
 pub returns : goal.returns
 returns c =
     let a = c.args in
-    all_saved a.sizes a.n a.buffer.now a.count a.keys.now a.values.now (few (goal.at.returns c).Else-n-count) (fit (goal.at.returns c).Else-not-caches_fit).0 (sym c.first_fault.ensures ∙ c.in_default.is) (fit (goal.at.returns c).Else-not-caches_fit).1 c.record_start-from.result c.record_start-to.result c.write_positions.new.bytes c.record_start-from.ensures c.record_start-to.ensures c.if-buffer-to.false c.write_positions.ensures
+    all_saved a.sizes a.n a.buffer.now a.count a.keys.now a.values.now (few (goal.at.returns c).Else-n-count) (fit (goal.at.returns c).Else-not-caches_fit).0 (none_found _ _ c.first_fault.ensures c.position_verdict.ensures c.in_ok-position_verdict.was) (fit (goal.at.returns c).Else-not-caches_fit).1 c.record_start-from.result c.record_start-to.result c.write_positions.new.bytes c.record_start-from.ensures c.record_start-to.ensures c.if-buffer-to.false c.write_positions.ensures

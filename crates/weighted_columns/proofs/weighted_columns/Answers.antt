@@ -1,4 +1,4 @@
-use Rattle.std.proofs.Common.{refl, ap, ◌∙◌, ◌+◌, ◌*◌, ◌-◌, ◌/◌, length, arith}
+use Rattle.std.proofs.Common.{◌≡◌, refl, ap, ◌∙◌, ◌+◌, ◌*◌, ◌-◌, length, arith}
 use Rattle.std.proofs.lemmas.Grind.{common_steps}
 use Rattle.tensor_laws.specs.Layout.{tabulate}
 use Rattle.weighted_columns.proofs.Columns.{columns_to, columns_put, all_columns, no_positions}
@@ -19,16 +19,22 @@ loop-block-preserved c =
     columns_put s.weights.now s.values.now s.stride s.out.now at (at + 16 - at) c.loop-block.out c.sixteen_columns.new.out c.loop-block.invariant c.loop-block.auto.out (omega arith) c.sixteen_columns.ensures
     ∙ ap (columns_to s.weights.now s.values.now s.stride s.out.now) (omega arith)
 
-pub returns-then-c-n : goal.returns-then-c-n
-returns-then-c-n c =
-    let s = c.args in
-    let at = length s.out.now / 16 * 16 in
-    columns_put s.weights.now s.values.now s.stride s.out.now at (length c.loop-block.out - at) c.loop-block.out c.weighted_rows.new.out
-    (c.loop-block.invariant ∙ ap (columns_to s.weights.now s.values.now s.stride s.out.now) (omega arith)) c.loop-block.auto.out (omega (arith, c.loop-block.auto.out)) c.weighted_rows.ensures
-    ∙ ap (columns_to s.weights.now s.values.now s.stride s.out.now) (omega (arith, c.loop-block.auto.out))
-    ∙ all_columns s.weights.now s.values.now s.stride s.out.now
+pub loop-block-2-init : goal.loop-block-2-init
+loop-block-2-init c = let s = c.args in c.loop-block.invariant ∙ ap (columns_to s.weights.now s.values.now s.stride s.out.now) (omega arith)
 
-pub returns-else-c-n : goal.returns-else-c-n
-returns-else-c-n c =
+pub loop-block-2-preserved : goal.loop-block-2-preserved
+loop-block-2-preserved c =
     let s = c.args in
-    c.loop-block.invariant ∙ ap (columns_to s.weights.now s.values.now s.stride s.out.now) (omega arith) ∙ all_columns s.weights.now s.values.now s.stride s.out.now
+    let a = c.loop-block-2 in
+    let at = a.block * 16 in
+    let to = columns_to s.weights.now s.values.now s.stride s.out.now in
+    let before : a.out ≡ to at = a.invariant ∙ ap to (omega (arith, c.loop-block-2-test.true, c.div_ceil-block-end.ensures)) in
+    let long = a.auto.out ∙ c.loop-block.auto.out in
+    columns_put s.weights.now s.values.now s.stride s.out.now at (length a.out - at) a.out c.weighted_rows.new.out before long (omega (arith, long)) c.weighted_rows.ensures
+    ∙ ap to (omega (arith, long, a.auto.block))
+
+pub returns : goal.returns
+returns c =
+    let s = c.args in
+    let to = columns_to s.weights.now s.values.now s.stride s.out.now in
+    c.loop-block-2.invariant ∙ ap to (omega (arith, c.loop-block-2-test.false, c.div_ceil-block-end.ensures)) ∙ all_columns s.weights.now s.values.now s.stride s.out.now

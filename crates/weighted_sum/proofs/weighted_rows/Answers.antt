@@ -1,64 +1,75 @@
-use Rattle.std.proofs.Common.{◌≡◌, sym, ap, ◌∙◌, ◌++◌, ℕ, ◌+◌, ◌*◌, ◌-◌, min, drop, length, length-append, length-drop, arith}
-use native.Mathlib.Nat.{add-mul, zero-min}
+use Rattle.std.proofs.Common.{◌≡◌, sym, ap, ◌∙◌, ℕ, ◌+◌, ◌*◌, ◌-◌, ◌/◌, ◌≤◌, ◌<◌, length, take, drop, arith}
+use native.Mathlib.Nat.{add-mul}
+use lib.Seq.{get_or-take, get_or-drop}
 use lib.Ieee.{nan}
-use Rattle.std.specs.Slice.Iter.{chunks_rest}
-use Rattle.std.specs.Iterator.Adapters.{enumerate_source, enumerate_count}
+use Rattle.tensor_laws.specs.Layout.{tabulate}
 use Rattle.tensor_laws.proofs.Tabulate.{tabulate_get_d}
-use Rattle.tensor_laws.proofs.Tails.{part_of, length_part}
+use Rattle.tensor_laws.proofs.Parts.{length_part as length-middle}
+use Rattle.tensor_laws.proofs.Tails.{part_of, length_part, get_or_part}
 use Rattle.softmax.specs.Lists.{accumulated_of, weighted_rows_of}
-use Rattle.weighted_sum.proofs.Blocks.{block_start, rest_behind, rows_to, rows_more}
+use Rattle.softmax.proofs.Rows.{column_of}
+use Rattle.weighted_sum.proofs.Blocks.{rows_more}
 use Rattle.weighted_sum.proofs.weighted_rows.Goals as goal
-use Rattle.weighted_sum.proofs.weighted_rows.Goals.{In-Some}
+use Rattle.weighted_sum.proofs.weighted_rows.Goals.{At-loop-block, In-loop-block}
 
 pub loop-block-init : goal.loop-block-init
 unfolding accumulated_of
-loop-block-init c =
-    rw (c.into_iter-block-iterator.ensures.into_iter_gives, c.enumerate-block-items.ensures.source, c.enumerate-block-items.ensures.count, zero-min) (c.chunks.ensures.size, c.chunks.ensures.rest, sym (tabulate_get_d c.args.out.now nan))
+loop-block-init c = sym (tabulate_get_d c.args.out.now nan)
 
--- the first position of the chunk
-first_at : (c : In-Some) → min (enumerate_count c.loop-block.block-iterator * 32) (length c.args.weights.now) ≡ c.in-Some.block * 32
-first_at c =
-    let s = c.in-Some.ensures.steps in
-    block_start (enumerate_count c.loop-block.block-iterator) c.args.weights.now (chunks_rest (enumerate_source c.loop-block.block-iterator)) c.loop-block.invariant.1 s.0.1.2 ∙ ap (λ (n : ℕ). n * 32) (sym s.1)
+-- the row of a position from j on is inside the part of the values that starts with position j
+inside : (values stride size j n i : ℕ) → ((k : ℕ) → k < n → k * stride + size ≤ values) → j + i < n → j * stride + (i * stride + size) ≤ values
+inside values stride size j n i h l = omega (arith, h (j + i) l, add-mul j i stride)
 
--- the chunk and those behind it are the weights from there on
-lent : (c : In-Some) → drop (c.in-Some.block * 32) c.args.weights.now ≡ c.in-Some.given.now ++ chunks_rest (enumerate_source c.next.new.self)
-lent c = ap (λ (n : ℕ). drop n c.args.weights.now) (sym (first_at c)) ∙ sym c.loop-block.invariant.1 ∙ c.in-Some.ensures.steps.0.1.0
-
-lent_long : (c : In-Some) → length c.args.weights.now - c.in-Some.block * 32 ≡ length c.in-Some.given.now + length (chunks_rest (enumerate_source c.next.new.self))
-lent_long c = sym (length-drop (c.in-Some.block * 32) c.args.weights.now) ∙ ap length (lent c) ∙ length-append c.in-Some.given.now (chunks_rest (enumerate_source c.next.new.self))
+-- the part of the weights that is lent has 32 elements, those from position j on
+weights_long : (c : In-loop-block) → let j = c.loop-block.block * 32 in length (take (j + 32 - j) (drop j c.args.weights.now)) ≡ 32
+weights_long c =
+    let j = c.loop-block.block * 32 in
+    let w = c.args.weights.now in
+    let e : j + 32 - j ≡ 32 = omega arith in
+    ap (λ (k : ℕ). length (take k (drop j w))) e ∙ length-middle j 32 w (omega (arith, c.loop-block-test.true))
 
 pub weighted_columns-requires : goal.weighted_columns-requires
 weighted_columns-requires c i l =
     let s = c.args in
-    let j = c.in-Some.block * 32 in
-    let n = lent_long (goal.at.weighted_columns-requires c).In-Some in
-    omega (arith, c.requires (j + i) (omega (arith, l)), add-mul j i s.stride, length_part (j * s.stride) s.values.now, c.loop-block.auto.out)
+    let j = c.loop-block.block * 32 in
+    omega (arith, inside (length s.values.now) s.stride (length s.out.now) j (length s.weights.now) i c.requires (omega (arith, weights_long (goal.at.weighted_columns-requires c).In-loop-block, c.loop-block-test.true, l)), c.loop-block.auto.out, length_part (j * s.stride) s.values.now)
 
 pub loop-block-preserved : goal.loop-block-preserved
 loop-block-preserved c =
-    let a = (goal.at.loop-block-preserved c).In-Some in
     let s = c.args in
-    let w = s.weights.now in
-    let j = c.in-Some.block * 32 in
-    let given = c.in-Some.given.now in
-    let rest = chunks_rest (enumerate_source c.next.new.self) in
-    let steps = c.in-Some.ensures.steps in
-    let n = lent_long a in
-    let e : j + length given ≡ min (enumerate_count c.next.new.self * 32) (length w) = omega (arith, steps.0.1.1, steps.1, steps.2, c.loop-block.invariant.0, first_at a, ap length steps.0.1.0 ∙ length-append given rest) in (
-      steps.0.0 ∙ c.loop-block.invariant.0,
-      rest_behind w given rest j (lent a) ∙ ap (λ (m : ℕ). drop m w) e,
-      c.weighted_columns.ensures
-          ∙ ap (weighted_rows_of given (part_of (j * s.stride) s.values.now) s.stride) (c.loop-block.invariant.2 ∙ ap (rows_to w s.values.now s.stride s.out.now) (first_at a))
-          ∙ rows_more w s.values.now s.stride s.out.now j given rest (lent a)
-          ∙ ap (rows_to w s.values.now s.stride s.out.now) e,
-    )
+    let j = c.loop-block.block * 32 in
+    let given = take (j + 32 - j) (drop j s.weights.now) in
+    c.weighted_columns.ensures
+    ∙ rows_more s.weights.now s.values.now s.stride s.out.now j 32 given c.loop-block.out c.loop-block.invariant (weights_long (goal.at.loop-block-preserved c).In-loop-block)
+    (λ i h. get_or-take (j + 32 - j) (drop j s.weights.now) i nan (omega arith) ∙ get_or-drop j s.weights.now i nan)
+    ∙ ap (λ (m : ℕ). tabulate (length s.out.now) (column_of s.weights.now s.values.now s.stride s.out.now m)) (omega arith)
 
-pub returns : goal.returns
-unfolding weighted_rows_of
-returns c =
+pub weighted_columns-requires-then-j-n : goal.weighted_columns-requires-then-j-n
+weighted_columns-requires-then-j-n c i l =
     let s = c.args in
-    let k = enumerate_count c.loop-block.block-iterator * 32 in
+    let j = length s.weights.now / 32 * 32 in
+    omega (arith, inside (length s.values.now) s.stride (length s.out.now) j (length s.weights.now) i c.requires (omega (arith, l, length_part j s.weights.now)), c.loop-block.auto.out, length_part (j * s.stride) s.values.now)
+
+-- the positions of the blocks are added
+blocks_added : (c : At-loop-block) → c.loop-block.block ≡ length c.args.weights.now / 32
+    → let s = c.args in c.loop-block.out ≡ tabulate (length s.out.now) (column_of s.weights.now s.values.now s.stride s.out.now (length s.weights.now / 32 * 32))
+blocks_added c e = let s = c.args in c.loop-block.invariant ∙ ap (λ (m : ℕ). tabulate (length s.out.now) (column_of s.weights.now s.values.now s.stride s.out.now (m * 32))) e
+
+pub returns-then-j-n : goal.returns-then-j-n
+unfolding weighted_rows_of
+returns-then-j-n c =
+    let s = c.args in
     let n = length s.weights.now in
-    let all : min k n ≡ n = omega (arith, c.in-None.ensures.steps.0.1.0, ap length c.loop-block.invariant.1 ∙ length-drop (min k n) s.weights.now) in
-    c.loop-block.invariant.2 ∙ ap (rows_to s.weights.now s.values.now s.stride s.out.now) all
+    let j = n / 32 * 32 in
+    let all : j + (n - j) ≡ n = omega arith in
+    c.weighted_columns-then-j-n.ensures
+    ∙ rows_more s.weights.now s.values.now s.stride s.out.now j (n - j) (part_of j s.weights.now) c.loop-block.out (blocks_added (goal.at.returns-then-j-n c).At-loop-block (omega arith)) (length_part j s.weights.now) (λ i h. get_or_part j s.weights.now i nan)
+    ∙ ap (λ (m : ℕ). tabulate (length s.out.now) (column_of s.weights.now s.values.now s.stride s.out.now m)) all
+
+pub returns-else-j-n : goal.returns-else-j-n
+unfolding weighted_rows_of
+returns-else-j-n c =
+    let s = c.args in
+    let all : length s.weights.now / 32 * 32 ≡ length s.weights.now = omega (arith, c.if-j-n.false) in
+    blocks_added (goal.at.returns-else-j-n c).At-loop-block (omega arith)
+    ∙ ap (λ (m : ℕ). tabulate (length s.out.now) (column_of s.weights.now s.values.now s.stride s.out.now m)) all
